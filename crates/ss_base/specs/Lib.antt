@@ -1,0 +1,5 @@
+pub mod Outside
+pub mod Memory
+pub mod Listed
+pub mod Text
+pub mod Begins

@@ -1,0 +1,22 @@
+//! What the simulators need of the outside: files by name, output streams, and numbers as text.
+//!
+//! Files and streams are traits, `Shelf` and `Sink`, whose contracts say what each call does to
+//! what is held, when a call may fail, and how failures are counted. The crate promises that a
+//! call fails only where its count of faults rose, that a fault leaves a front of what was to be
+//! written, and that files other than the named one stay. `MemShelf` and `MemSink` hold what they
+//! were given and fail at chosen calls; `HostShelf` and `HostSink` reach real files and streams.
+#![tactic(auto)]
+
+mod bytes;
+mod fault;
+mod host;
+mod memory;
+mod outside;
+mod text;
+
+pub use bytes::{Bytes, Name};
+pub use fault::{LoadFault, OutOfMemory, PutFault};
+pub use host::{HostShelf, HostSink};
+pub use memory::{MemShelf, MemSink};
+pub use outside::{Shelf, Sink};
+pub use text::{get16, get32, get64, push_decimal, push_hex, push_hex_bytes};
