@@ -1,10 +1,9 @@
 -- Lemmas on a write of all bytes, by parts.
-use Rattle.std.proofs.Common.{◌≡◌, ◌+◌, ◌-◌, ◌≤◌, ◌<◌, ◌++◌, ◌∙◌, ℕ, List, [], Option, Some, None, refl, sym, ap, arith, subst, length, take, drop, append_assoc, append-nil, false, true}
+use Rattle.std.proofs.Common.{◌≡◌, ◌+◌, ◌-◌, ◌≤◌, ◌++◌, ◌∙◌, ℕ, List, Option, Some, None, sym, ap, arith, subst, length, take, drop, append_assoc, false, true}
 use Rattle.std.proofs.Math.Seq.{take-append_seam, take-add}
 use Rattle.std.proofs.lemmas.List.{take_all, take-append-drop, length-drop, drop-drop}
 use Rattle.std.specs.Io.KnownBytes.{Appends, Keeps}
 use Rattle.ss_base.specs.Outside.{BeginsWith}
-use Rattle.ss_base.specs.Begins.{begins_more}
 use Rattle.ss_base.specs.Known.{WritesWhole}
 
 -- a part and the next part are one part

@@ -1,4 +1,4 @@
-use Rattle.std.proofs.Common.{◌≡◌, ◌-◌, ◌+◌, ◌≤◌, arith, length, drop}
+use Rattle.std.proofs.Common.{◌-◌, ◌≤◌, length, drop}
 use Rattle.ss_base.proofs.Written.{Appends-kept, written_part, rest_after, rest_shorter, rest_left, rest_grown}
 use Rattle.ss_base.proofs.host.write_whole.Goals as goal
 

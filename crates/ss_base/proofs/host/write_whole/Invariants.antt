@@ -1,5 +1,5 @@
 -- the known bytes have grown by what was written so far, and the rest is what is left
-use Rattle.std.proofs.Common.{◌≡◌, ◌≤◌, ℕ, List, length, drop, take, ◌-◌}
+use Rattle.std.proofs.Common.{◌≡◌, ◌≤◌, length, drop, take, ◌-◌}
 use Rattle.std.specs.Io.KnownBytes.{Appends}
 use Rattle.ss_base.proofs.host.write_whole.Given as goal
 
