@@ -1,0 +1,18 @@
+//! The instructions of PISA: one table of all operations, and the coding in two words.
+//!
+//! A row of the table gives an operation's name, opcode, operands, functional unit and kind;
+//! everything else is derived from it by one rule. The crate promises that `decode` answers exactly
+//! the instruction that two words code and otherwise the first reason why there is none, that
+//! `encode` is its inverse, and that the reads, writes and classes of an instruction are those of
+//! its row. No call takes memory.
+#![tactic(auto)]
+
+mod classes;
+mod instr;
+mod places;
+mod table;
+
+pub use classes::{AccessKind, ControlKind, UnitClass};
+pub use instr::{Illegal, IllegalWhy, Instr, Op};
+pub use places::Place;
+pub use table::Operands;
