@@ -9,6 +9,7 @@
 
 mod classes;
 mod instr;
+mod lookup;
 mod places;
 mod table;
 
