@@ -5,15 +5,8 @@ use Rattle.pisa_isa.specs.declared.table.Operands.{Operands}
 use Rattle.pisa_isa.specs.declared.table.Operands.TheVariants as form
 use Rattle.pisa_isa.specs.declared.table.Kind.{Kind}
 use Rattle.pisa_isa.specs.declared.table.Kind.TheVariants as kind
+use Rattle.pisa_isa.specs.declared.fields.Fields.{Fields}
 use Rattle.pisa_isa.specs.Table.{row_of}
-
-pub record Fields : Type 0 where
-  pub rs : Bool
-  pub rt : Bool
-  pub rd : Bool
-  pub shamt : Bool
-  pub imm : Bool
-  pub target : Bool
 
 -- the fields that stand among the operands; offsets and branches are in imm
 abbrev pub fields_of : Operands → Fields

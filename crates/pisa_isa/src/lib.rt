@@ -8,6 +8,7 @@
 #![tactic(auto)]
 
 mod classes;
+mod fields;
 mod instr;
 mod lookup;
 mod places;
