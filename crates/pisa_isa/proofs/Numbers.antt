@@ -1,5 +1,5 @@
 -- Operations and their numbers.
-use Rattle.std.proofs.Common.{◌≡◌, ◌≢◌, ◌<◌, ◌≤◌, ℕ, List, [], ◌∷◌, find, cond, subst, map, get_or, Bool, true, false, Option, Some, None, nat_eq, refl, sym, ap, arith, ◌∙◌, lit<}
+use Rattle.std.proofs.Common.{◌≡◌, ◌≢◌, ◌<◌, ◌≤◌, ℕ, List, [], ◌∷◌, find, cond, subst, map, get_or, Bool, true, false, Option, Some, None, nat_eq, refl, sym, ap, arith, ◌∙◌, lit<, lit≤, length}
 use Rattle.std.proofs.lemmas.Bool.{eqb-true}
 use Rattle.std.proofs.lemmas.List.FromFn.{get_or-map-range_with_len}
 use Rattle.std.specs.List.{range_with_len}
@@ -7,9 +7,10 @@ use Rattle.pisa_isa.specs.declared.instr.Op.{Op}
 use Rattle.pisa_isa.specs.declared.instr.Op.TheVariants as op
 use Rattle.pisa_isa.specs.declared.lookup.TheConstants.{OPERATIONS}
 use Rattle.pisa_isa.specs.Coding.{number_of, operation_of, all_ops}
+use Rattle.pisa_isa.specs.Texts.{name_of}
 
 -- an option that is no value is None
-nothing : {A : Type 0} (o : Option A) → ((x : A) → o ≡ Some x → ⊥) → o ≡ None
+pub nothing : {A : Type 0} (o : Option A) → ((x : A) → o ≡ Some x → ⊥) → o ≡ None
 nothing None none = refl
 nothing (Some x) none = absurd (none x refl)
 
@@ -49,3 +50,8 @@ table_is = refl
 
 pub table_at : (n : ℕ) → n < 256 → get_or OPERATIONS n None ≡ operation_of n
 table_at n below = ap (λ xs. get_or xs n None) table_is ∙ get_or-map-range_with_len operation_of 0 256 n n None below (omega arith)
+
+-- a printed name has at most eight characters
+pub name_fits : (o : Op) → length (name_of o) ≤ 8
+name_fits op.Nop = lit≤ tt
+name_fits _ = lit≤ tt

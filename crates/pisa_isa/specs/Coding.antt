@@ -1,5 +1,5 @@
 -- How two words code an instruction.
-use Rattle.std.specs.Prelude.{◌≡◌, ◌≢◌, ◌-◌, ◌/◌, ◌%◌, ◌^◌, ◌≤◌, ◌<◌, ◌&&◌, ℕ, List, [], ◌∷◌, find, Bool, true, false, Option, Some, None, nat_le, nat_eq, if◌then◌else◌, Result, Ok, Err}
+use Rattle.std.specs.Prelude.{◌≡◌, ◌≢◌, ◌+◌, ◌*◌, ◌-◌, ◌/◌, ◌%◌, ◌^◌, ◌≤◌, ◌<◌, ◌&&◌, ℕ, List, [], ◌∷◌, find, Bool, true, false, Option, Some, None, nat_le, nat_eq, if◌then◌else◌, Result, Ok, Err}
 use Rattle.pisa_isa.specs.declared.instr.Op.{Op}
 use Rattle.pisa_isa.specs.declared.instr.Op.TheVariants as op
 use Rattle.pisa_isa.specs.declared.instr.Instr.{Instr}
@@ -86,10 +86,25 @@ Reason first second why.Register =
 Reason first second why.Shift =
     (o : Op) × (number_of o ≡ opcode_of first) × HasRegisters (instr_of o second) × (31 < (instr_of o second).shamt)
 
+-- what a look at the ranges of an instruction finds first
+abbrev pub Finds : Instr → Result (Unit {0}) IllegalWhy → Type 0
+Finds i (Ok _) = HasRegisters i × (i.shamt ≤ 31)
+Finds i (Err why.Opcode) = ⊥
+Finds i (Err why.Register) = HasRegisters i → ⊥
+Finds i (Err why.Shift) = HasRegisters i × (31 < i.shamt)
+
 -- a refusal tells the opcode and the reason
 pub record Refuses (first second : ℕ) (e : Illegal) : Type 0 where
   pub opcode : e.opcode ≡ opcode_of first
   pub why : Reason first second e.why
+
+-- the registers, the shift amount and the target of an instruction are below their limits
+pub record IsInRange (i : Instr) : Type 0 where
+  pub rs : i.rs < 32
+  pub rt : i.rt < 32
+  pub rd : i.rd < 32
+  pub shamt : i.shamt < 32
+  pub target : i.target < 2 ^ 26
 
 -- what decoding answers
 abbrev pub Decodes : ℕ → ℕ → Result Instr Illegal → Type 0
@@ -109,3 +124,8 @@ decoded_as (Some o) second = checked (instr_of o second)
 -- what two words code, if anything
 abbrev pub decoded : ℕ → ℕ → Option Instr
 decoded first second = decoded_as (operation_of (opcode_of first)) second
+
+-- the second word of an instruction: each field at its place, of which those that lie over one
+-- another are never used together
+abbrev pub second_word : Instr → ℕ
+second_word i = i.rs * 2 ^ 24 + i.rt * 2 ^ 16 + i.rd * 2 ^ 8 + i.shamt + i.imm + i.target

@@ -56,9 +56,17 @@ impl Operands {
             | Operands::RtOffset
             | Operands::RtRsSigned
             | Operands::RtRsUnsigned => Fields {
-                rs, rt, imm, ..NONE
+                rs,
+                rt,
+                imm,
+                ..NONE
             },
-            Operands::RtIndexed | Operands::RdRsRt | Operands::RdRtRs => Fields { rs, rt, rd, ..NONE },
+            Operands::RtIndexed | Operands::RdRsRt | Operands::RdRtRs => Fields {
+                rs,
+                rt,
+                rd,
+                ..NONE
+            },
             Operands::RdRtShift => Fields {
                 rt,
                 rd,

@@ -8,13 +8,17 @@
 #![tactic(auto)]
 
 mod classes;
+mod coding;
 mod fields;
 mod instr;
 mod lookup;
 mod places;
 mod table;
 
-pub use classes::{AccessKind, ControlKind, UnitClass};
+pub use classes::{
+    AccessKind, ControlKind, UnitClass, access, control, is_float, name, number, operands, unit,
+};
+pub use coding::{decode, encode};
 pub use instr::{Illegal, IllegalWhy, Instr, Op};
-pub use places::Place;
+pub use places::{Place, reads_main, reads_second, writes};
 pub use table::Operands;

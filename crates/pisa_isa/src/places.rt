@@ -116,7 +116,11 @@ fn three_registers(first: u8, second: u8, third: u8) -> ArrayVec<Place, 3>
     let mut places = ArrayVec::new();
     push_register(&mut places, first != 0, first);
     push_register(&mut places, second != 0 && second != first, second);
-    push_register(&mut places, third != 0 && third != first && third != second, third);
+    push_register(
+        &mut places,
+        third != 0 && third != first && third != second,
+        third,
+    );
     places
 }
 
