@@ -10,7 +10,7 @@ use Rattle.pisa_isa.specs.declared.instr.IllegalWhy.TheVariants as why
 use Rattle.pisa_isa.specs.Table.{row_of}
 use Rattle.pisa_isa.specs.Fields.{fields_of, uses, last_rt, takes_pair, highest_rt}
 use Rattle.pisa_isa.specs.Coding.{AtMost, Codes, Finds, HasRegisters, IsWellFormed, Reason, bits, field_of, instr_of, number_of, operation_of, opcode_of, checked, decoded, decoded_as, second_word}
-use Rattle.pisa_isa.proofs.Numbers.{nothing, number_below, operation_has, operation_number}
+use Rattle.pisa_isa.proofs.Numbers.{nothing, number_below, operation_at, operation_has, operation_number}
 
 -- a field in its range is at most the range's end
 pub at_most : (used : Bool) (most field : ℕ) → AtMost used most field → field ≤ most
@@ -198,3 +198,63 @@ made_reason first second o i why.Shift found made h =
 -- the operation of a number that a first word has as its opcode
 pub found_at : (first n : ℕ) (found answer : Option Op) → n ≡ opcode_of first → found ≡ operation_of n → found ≡ answer → operation_of (opcode_of first) ≡ answer
 found_at first n found answer number is same = ap operation_of (sym number) ∙ sym is ∙ same
+
+-- two words code at most one instruction
+pub codes_unique : (first second : ℕ) (i j : Instr) → Codes first second i → Codes first second j → i ≡ j
+codes_unique first second i j h k =
+    let p = codes_decoded first second i h in
+    let q = codes_decoded first second j k in
+    cc
+
+first_fault : (i : Instr) → checked i ≡ None → (rs rt rd shamt : Bool) → nat_le i.rs 31 ≡ rs → nat_le i.rt (highest_rt i.op) ≡ rt → nat_le i.rd 31 ≡ rd → nat_le i.shamt 31 ≡ shamt → (w : IllegalWhy) × Finds i (Err w)
+first_fault i h false rt rd shamt a b c d = (why.Register, λ r. absurd (grind (arith, nat_tests, r.rs)))
+first_fault i h true false rd shamt a b c d = (why.Register, λ r. absurd (grind (arith, nat_tests, r.rt)))
+first_fault i h true true false shamt a b c d = (why.Register, λ r. absurd (grind (arith, nat_tests, r.rd)))
+first_fault i h true true true false a b c d =
+    (why.Shift, (record { rs = grind (arith, nat_tests); rt = grind (arith, nat_tests); rd = grind (arith, nat_tests) }, grind (arith, nat_tests)))
+first_fault i h true true true true a b c d = absurd (grind (arith, nat_tests))
+
+-- where an instruction does not pass the tests of ranges, one of them fails
+unfit_reason : (i : Instr) → checked i ≡ None → (w : IllegalWhy) × Finds i (Err w)
+unfit_reason i h = first_fault i h (nat_le i.rs 31) (nat_le i.rt (highest_rt i.op)) (nat_le i.rd 31) (nat_le i.shamt 31) refl refl refl refl
+
+reason_step : (first second : ℕ) (found : Option Op) → operation_of (opcode_of first) ≡ found → decoded_as found second ≡ None → (w : IllegalWhy) × Reason first second w
+reason_step first second None is h = (why.Opcode, operation_none (opcode_of first) is)
+reason_step first second (Some o) is h =
+    let w = unfit_reason (instr_of o second) h in
+    (w.0, made_reason first second o (instr_of o second) w.0 is refl w.1)
+
+-- where nothing is decoded there is a reason
+pub reason_exists : (first second : ℕ) → decoded first second ≡ None → (w : IllegalWhy) × Reason first second w
+reason_exists first second h = reason_step first second (operation_of (opcode_of first)) refl h
+
+same_number : (n : ℕ) (o p : Op) → number_of o ≡ n → number_of p ≡ n → o ≡ p
+same_number n o p is also =
+    let here = operation_at n o is in
+    let there = operation_at n p also in
+    cc
+
+-- at most one reason holds
+pub reason_unique : (first second : ℕ) (w v : IllegalWhy) → Reason first second w → Reason first second v → w ≡ v
+reason_unique first second why.Opcode why.Opcode r s = refl
+reason_unique first second why.Opcode why.Register r s = absurd (r s.0 s.1)
+reason_unique first second why.Opcode why.Shift r s = absurd (r s.0 s.1)
+reason_unique first second why.Register why.Opcode r s = absurd (s r.0 r.1)
+reason_unique first second why.Register why.Register r s = refl
+reason_unique first second why.Register why.Shift r s =
+    absurd (r.2 (subst (λ o. HasRegisters (instr_of o second)) (same_number (opcode_of first) s.0 r.0 s.1 r.1) s.2))
+reason_unique first second why.Shift why.Opcode r s = absurd (s r.0 r.1)
+reason_unique first second why.Shift why.Register r s =
+    absurd (s.2 (subst (λ o. HasRegisters (instr_of o second)) (same_number (opcode_of first) r.0 s.0 r.1 s.1) r.2))
+reason_unique first second why.Shift why.Shift r s = refl
+
+-- the used fields of a word, each at its place, are at most the word
+least : (s : Operands) (word : ℕ)
+    → field_of (fields_of s).rs (bits word 24 8) * 2 ^ 24 + field_of (fields_of s).rt (bits word 16 8) * 2 ^ 16 + field_of (fields_of s).rd (bits word 8 8) * 2 ^ 8 + field_of (fields_of s).shamt (bits word 0 8) + field_of (fields_of s).imm (bits word 0 16) + field_of (fields_of s).target (bits word 0 26) ≤ word
+least form.Empty word = omega arith
+least _ word = omega arith
+
+-- the words of an instruction are the least that code it
+pub codes_least : (first second : ℕ) (i : Instr) → Codes first second i → (number_of i.op ≤ first) × (second_word i ≤ second)
+codes_least first second i h =
+    (omega (arith, h.number), rw (h.rs, h.rt, h.rd, h.shamt, h.imm, h.target) (least (row_of i.op).operands second))

@@ -55,3 +55,7 @@ table_at n below = ap (λ xs. get_or xs n None) table_is ∙ get_or-map-range_wi
 pub name_fits : (o : Op) → length (name_of o) ≤ 8
 name_fits op.Nop = lit≤ tt
 name_fits _ = lit≤ tt
+
+-- an operation is found at its number
+pub operation_at : (n : ℕ) (o : Op) → number_of o ≡ n → operation_of n ≡ Some o
+operation_at n o is = rw (← is) (operation_number o)

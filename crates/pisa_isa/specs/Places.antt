@@ -1,5 +1,5 @@
 -- The places that an instruction reads and writes.
-use Rattle.std.specs.Prelude.{◌+◌, ◌&&◌, ℕ, List, [], ◌∷◌, ◌++◌, filter, not, nat_eq, if◌then◌else◌, Bool, true, false}
+use Rattle.std.specs.Prelude.{◌+◌, ◌<◌, ◌&&◌, ℕ, List, [], ◌∷◌, ◌++◌, filter, not, nat_eq, if◌then◌else◌, Bool, true, false}
 use Rattle.pisa_isa.specs.declared.instr.Op.{Op}
 use Rattle.pisa_isa.specs.declared.instr.Instr.{Instr}
 use Rattle.pisa_isa.specs.declared.table.Kind.{Kind}
@@ -22,6 +22,11 @@ abbrev pub registers : List ℕ → List Place
 registers [] = []
 registers (r ∷ rs) =
     if nat_eq r 0 then registers rs else place.Reg r ∷ filter (λ p. not (is_register r p)) (registers rs)
+
+-- how often a register stands among places
+abbrev pub times_listed : ℕ → List Place → ℕ
+times_listed r [] = 0
+times_listed r (p ∷ ps) = (if is_register r p then 1 else 0) + times_listed r ps
 
 -- the place of a register where it is to be listed
 abbrev pub listed_register : Bool → ℕ → List Place
@@ -103,3 +108,9 @@ reads_second_of i = members i (late_source (row_of i.op).kind)
 
 abbrev pub reads_main_of : Instr → List Place
 reads_main_of i = main_places i (row_of i.op).kind
+
+-- the place is HI, LO or a register from 1 to 31
+abbrev pub IsNamed : Place → Type 0
+IsNamed (place.Reg r) = (0 < r) × (r < 32)
+IsNamed place.Hi = Unit {0}
+IsNamed place.Lo = Unit {0}

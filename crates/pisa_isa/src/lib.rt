@@ -11,6 +11,7 @@ mod classes;
 mod coding;
 mod fields;
 mod instr;
+mod laws;
 mod lookup;
 mod places;
 mod table;
@@ -20,5 +21,9 @@ pub use classes::{
 };
 pub use coding::{decode, encode};
 pub use instr::{Illegal, IllegalWhy, Instr, Op};
+pub use laws::{
+    coding_is_exact, encoding_is_least, opcodes_are_unique, places_are_named, refusals_are_exact,
+    registers_are_listed_once, system_calls_have_no_places,
+};
 pub use places::{Place, reads_main, reads_second, writes};
 pub use table::Operands;
