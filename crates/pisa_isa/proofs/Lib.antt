@@ -1,3 +1,1 @@
-pub mod Numbers
-pub mod CodingLaws
-pub mod PlaceLaws
+pub mod LookupTable

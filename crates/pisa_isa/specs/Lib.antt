@@ -4,3 +4,6 @@ pub mod Coding
 pub mod Texts
 pub mod Classes
 pub mod Places
+pub mod Numbers
+pub mod CodingLaws
+pub mod PlaceLaws

@@ -122,7 +122,7 @@ pub fn decode(first: u32, second: u32) -> Result<Instr, Illegal>
 }
 
 /// The second word of an instruction, with each unused bit 0.
-#[tactic(auto, using(crate::proofs::CodingLaws::bounds))]
+#[tactic(auto, using(crate::specs::CodingLaws::bounds))]
 fn joined_fields(i: &Instr) -> u32
     requires { IsWellFormed i.now }
     ensures { result ≡ second_word i.now }

@@ -1,5 +1,5 @@
 use Rattle.std.proofs.Common.{rules, ap, length, arith, lit<}
-use Rattle.pisa_isa.proofs.Numbers.{name_fits}
+use Rattle.pisa_isa.specs.Numbers.{name_fits}
 use Rattle.pisa_isa.proofs.classes.name.Goals as goal
 
 pub push_str-requires : goal.push_str-requires

@@ -1,5 +1,5 @@
 use Rattle.std.proofs.Common.{sym, Some, None}
-use Rattle.pisa_isa.proofs.CodingLaws.{made_codes, made_reason, found_at, codes_decoded, reason_decoded, operation_none}
+use Rattle.pisa_isa.specs.CodingLaws.{made_codes, made_reason, found_at, codes_decoded, reason_decoded, operation_none}
 use Rattle.pisa_isa.proofs.coding.decode.Goals as goal
 
 pub returns-in_default-clause-coding : goal.returns-in_default-clause-coding

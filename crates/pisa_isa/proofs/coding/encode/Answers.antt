@@ -1,6 +1,6 @@
 use Rattle.std.proofs.Common.{◌∙◌, subst, sym, ap}
 use Rattle.pisa_isa.specs.Coding.{Codes, decoded}
-use Rattle.pisa_isa.proofs.CodingLaws.{word_codes, codes_decoded}
+use Rattle.pisa_isa.specs.CodingLaws.{word_codes, codes_decoded}
 use Rattle.pisa_isa.proofs.coding.encode.Goals as goal
 
 pub returns-clause-coding : goal.returns-clause-coding

@@ -1,4 +1,4 @@
-use Rattle.pisa_isa.proofs.Numbers.{operation_has, operation_at}
+use Rattle.pisa_isa.specs.Numbers.{operation_has, operation_at}
 use Rattle.pisa_isa.proofs.laws.opcodes_are_unique.Goals as goal
 
 pub returns-clause-found : goal.returns-clause-found

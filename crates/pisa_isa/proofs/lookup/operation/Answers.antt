@@ -1,5 +1,6 @@
 use Rattle.std.proofs.Common.{◌≡◌, ◌∙◌, ap, sym, get_or, None}
-use Rattle.pisa_isa.proofs.Numbers.{table_at, operation_above}
+use Rattle.pisa_isa.specs.Numbers.{operation_above}
+use Rattle.pisa_isa.proofs.LookupTable.{table_at}
 use Rattle.pisa_isa.proofs.lookup.operation.Goals as goal
 
 pub returns-then-number-lt256 : goal.returns-then-number-lt256

@@ -9,8 +9,8 @@ use Rattle.pisa_isa.specs.declared.instr.IllegalWhy.{IllegalWhy}
 use Rattle.pisa_isa.specs.declared.instr.IllegalWhy.TheVariants as why
 use Rattle.pisa_isa.specs.Table.{row_of}
 use Rattle.pisa_isa.specs.Fields.{fields_of, uses, last_rt, takes_pair, highest_rt}
-use Rattle.pisa_isa.specs.Coding.{AtMost, Codes, Finds, HasRegisters, IsWellFormed, Reason, bits, field_of, instr_of, number_of, operation_of, opcode_of, checked, decoded, decoded_as, second_word}
-use Rattle.pisa_isa.proofs.Numbers.{nothing, number_below, operation_at, operation_has, operation_number}
+use Rattle.pisa_isa.specs.Coding.{AtMost, Codes, Finds, HasRegisters, IsInRange, IsWellFormed, Reason, bits, field_of, instr_of, number_of, operation_of, opcode_of, checked, decoded, decoded_as, second_word}
+use Rattle.pisa_isa.specs.Numbers.{nothing, number_below, operation_at, operation_has, operation_number}
 
 -- a field in its range is at most the range's end
 pub at_most : (used : Bool) (most field : ℕ) → AtMost used most field → field ≤ most
@@ -42,6 +42,18 @@ bounds i h =
       shamt = at_most (uses i.op).shamt 31 i.shamt h.shamt;
       imm = at_most (uses i.op).imm 65535 i.imm h.imm;
       target = at_most (uses i.op).target 67108863 i.target h.target;
+    }
+
+-- a well-formed instruction is below the limits
+pub in_range : (i : Instr) → IsWellFormed i → IsInRange i
+in_range i h =
+    let b = bounds i h in
+    record {
+      rs = omega (arith, b.rs);
+      rt = omega (arith, b.rt);
+      rd = omega (arith, b.rd);
+      shamt = omega (arith, b.shamt);
+      target = omega (arith, b.target);
     }
 
 -- the fields that a word holds for operands of a shape
@@ -151,6 +163,10 @@ decoded_step first second i (Some o) is h =
 -- what is decoded is coded
 pub decoded_codes : (first second : ℕ) (i : Instr) → decoded first second ≡ Some i → Codes first second i
 decoded_codes first second i h = decoded_step first second i (operation_of (opcode_of first)) refl h
+
+-- what is decoded is well formed
+pub decoded_well_formed : (first second : ℕ) (i : Instr) → decoded first second ≡ Some i → IsWellFormed i
+decoded_well_formed first second i h = (decoded_codes first second i h).well_formed
 
 -- what the operation of the opcode would be is what is coded, if anything
 same_op : (first second : ℕ) (o : Op) (i : Instr) → number_of o ≡ opcode_of first → Codes first second i → i ≡ instr_of o second

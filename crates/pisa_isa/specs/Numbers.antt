@@ -1,11 +1,8 @@
 -- Operations and their numbers.
 use Rattle.std.proofs.Common.{◌≡◌, ◌≢◌, ◌<◌, ◌≤◌, ℕ, List, [], ◌∷◌, find, cond, subst, map, get_or, Bool, true, false, Option, Some, None, nat_eq, refl, sym, ap, arith, ◌∙◌, lit<, lit≤, length}
 use Rattle.std.proofs.lemmas.Bool.{eqb-true}
-use Rattle.std.proofs.lemmas.List.FromFn.{get_or-map-range_with_len}
-use Rattle.std.specs.List.{range_with_len}
 use Rattle.pisa_isa.specs.declared.instr.Op.{Op}
 use Rattle.pisa_isa.specs.declared.instr.Op.TheVariants as op
-use Rattle.pisa_isa.specs.declared.lookup.TheConstants.{OPERATIONS}
 use Rattle.pisa_isa.specs.Coding.{number_of, operation_of, all_ops}
 use Rattle.pisa_isa.specs.Texts.{name_of}
 
@@ -42,14 +39,6 @@ operation_number _ = refl
 -- no operation has a number of 256 or more
 pub operation_above : (n : ℕ) → 256 ≤ n → operation_of n ≡ None
 operation_above n above = nothing (operation_of n) (λ o found. absurd (omega (arith, number_below o, operation_has n o found)))
-
--- the look-up table holds the operation of each number below 256
-table_is : OPERATIONS ≡ map operation_of (range_with_len 0 256)
-unfolding operation_of
-table_is = refl
-
-pub table_at : (n : ℕ) → n < 256 → get_or OPERATIONS n None ≡ operation_of n
-table_at n below = ap (λ xs. get_or xs n None) table_is ∙ get_or-map-range_with_len operation_of 0 256 n n None below (omega arith)
 
 -- a printed name has at most eight characters
 pub name_fits : (o : Op) → length (name_of o) ≤ 8

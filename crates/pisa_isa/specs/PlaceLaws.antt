@@ -16,7 +16,7 @@ use Rattle.pisa_isa.specs.declared.table.Kind.TheVariants as kind
 use Rattle.pisa_isa.specs.Table.{row_of}
 use Rattle.pisa_isa.specs.Fields.{uses, last_rt, takes_pair}
 use Rattle.pisa_isa.specs.Coding.{IsWellFormed, field_of}
-use Rattle.pisa_isa.proofs.CodingLaws.{Bounds, bounds}
+use Rattle.pisa_isa.specs.CodingLaws.{Bounds, bounds}
 use Rattle.pisa_isa.specs.Places.{IsNamed, destination, is_rd, is_rt, late_source, main_places, members, sources, is_register, times_listed, registers, reads_main_of, reads_second_of, writes_of}
 
 -- a system call has no places, by its row
