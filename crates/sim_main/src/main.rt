@@ -8,6 +8,8 @@
 mod ending;
 mod run;
 mod simulate;
+#[cfg(test)]
+mod tests;
 
 use crate::ending::{Ending, Unbuilt};
 use ss_base::{HostShelf, HostSink};

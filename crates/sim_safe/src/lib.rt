@@ -9,6 +9,8 @@
 mod arch;
 mod commit;
 mod record;
+#[cfg(test)]
+mod tests;
 
 pub use arch::{Arch, steps_lead_on};
 pub use commit::commit_line;
