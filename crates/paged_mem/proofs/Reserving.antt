@@ -1,7 +1,7 @@
 -- The pages of a range, reserved one after the other.
-use Rattle.std.proofs.Common.{◌≡◌, ℕ, ◌+◌, ◌<◌, ◌≤◌, ◌⊎◌, sym, ◌∙◌, inl, inr, refl, arith}
-use Rattle.std.proofs.lemmas.Bool.{cases_eq, cases_lt}
-use Rattle.paged_mem.specs.Memory.{Pages, byte_of, IsReserved, Meets, IsRangeReserved}
+use Rattle.std.proofs.Common.{◌≡◌, ℕ, ◌+◌, ◌<◌, ◌≤◌, ◌⊎◌, ◌∙◌, inl, inr, refl, arith}
+use Rattle.std.proofs.lemmas.Bool.{cases_eq}
+use Rattle.paged_mem.specs.Memory.{Pages, byte_of, IsReserved, Meets}
 
 -- the pages that the range meets below `next` are reserved, and nothing else has changed
 pub record Reserving (old now : Pages) (address len next : ℕ) : Type 0 where

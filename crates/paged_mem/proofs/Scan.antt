@@ -1,21 +1,20 @@
 -- The search for the next page with a byte other than 0, over the pages in order.
-use Rattle.std.proofs.Common.{◌≡◌, ℕ, ◌*◌, ◌+◌, ◌/◌, ◌<◌, ◌≤◌, ◌⊎◌, Bool, true, false, cond, List, [], ◌∷◌, slice_index, Option, None, Some, is_some, nat_eq, refl, sym, ◌∙◌, ap, inl, inr, arith}
-use Rattle.std.specs.Map.{lookup, keys_of}
+use Rattle.std.proofs.Common.{◌≡◌, ℕ, ◌*◌, ◌+◌, ◌/◌, ◌<◌, ◌≤◌, ◌⊎◌, Bool, true, false, cond, List, [], ◌∷◌, slice_index, None, Some, refl, sym, ◌∙◌, ap, inl, inr, arith}
+use Rattle.std.specs.Map.{keys_of}
 use Rattle.std.specs.BTreeMap.{is_at}
 use Rattle.std.specs.BTreeMap.Range.{entries_between, range_contains}
-use Rattle.std.specs.Ordering.{nat_cmp, is_eq, is_le}
+use Rattle.std.specs.Ordering.{nat_cmp, is_le}
 use Rattle.std.specs.Cmp.{ranked}
 use Rattle.std.specs.List.{filter, AllByRecursion}
 use Rattle.std.specs.List.Sorted.{IsStrictlySortedBy}
 use Rattle.std.specs.declared.cmp.Ordering.TheVariants.{Less}
-use Rattle.std.specs.declared.ops.Bound.{Bound}
 use Rattle.std.specs.declared.ops.Bound.TheVariants.{Included, Unbounded}
 use Rattle.std.proofs.lemmas.Bool.{cases_eq, cases_lt, cases_order, cases_Bool, eq-eqb, ne_eqb, lt-ltb, le-ltb, eqb-true}
 use Rattle.std.proofs.lemmas.List.Kept.{IsStrictlySortedBy-filter}
 use Rattle.std.proofs.lemmas.Map.Keys.{sorted_head, sorted_tail}
 use Rattle.std.proofs.lemmas.Map.Entries.{lookup-filter-keys}
-use Rattle.paged_mem.specs.Memory.{Pages, page_of, is_reserved, byte_of, IsReserved, IsZeroPage, HasByte}
-use Rattle.paged_mem.proofs.Pages.{is_eq-nat_cmp, lookup-page_of, page_of-unreserved, bytes_of_reserved, is_reserved-some, is_reserved-same, unreserved_page, zero_page, byte_of-in_page}
+use Rattle.paged_mem.specs.Memory.{Pages, page_of, is_reserved, IsReserved, IsZeroPage, HasByte}
+use Rattle.paged_mem.proofs.Pages.{is_eq-nat_cmp, lookup-page_of, page_of-unreserved, bytes_of_reserved, is_reserved-same, unreserved_page, zero_page, byte_of-in_page}
 
 -- the pages `rest` are still to be looked at: each other one from `from` on is zero
 pub record Scans (memory : Pages) (from : ℕ) (rest : Pages) : Type 0 where

@@ -1,6 +1,5 @@
 -- Bytes of a range, written page by page.
-use Rattle.std.proofs.Common.{◌≡◌, ℕ, ◌+◌, ◌*◌, ◌/◌, ◌%◌, ◌-◌, ◌<◌, ◌≤◌, Bool, List, length, ◌++◌, take, drop, sym, ◌∙◌, ap, refl, arith, length-append}
-use Rattle.std.proofs.lemmas.List.{take-append-drop}
+use Rattle.std.proofs.Common.{◌≡◌, ℕ, ◌+◌, ◌*◌, ◌/◌, ◌%◌, ◌<◌, ◌≤◌, List, length, ◌++◌, sym, ◌∙◌, ap, refl, arith, length-append}
 use Rattle.paged_mem.specs.Memory.{Pages, byte_of, is_reserved, IsReserved, IsRangeReserved, overlaid}
 use Rattle.paged_mem.proofs.Overlaid.{overlaid-append, overlaid-none}
 

@@ -1,10 +1,10 @@
 -- The page that is lent is the reserved one, and what is written to it stands in the map.
-use Rattle.std.proofs.Common.{◌≡◌, ℕ, Some, None, sym, ◌∙◌, ap, false, true, is_some}
+use Rattle.std.proofs.Common.{◌≡◌, Some, None, sym, ◌∙◌, ap, false, true, is_some}
 use Rattle.std.specs.Map.{lookup}
 use Rattle.std.specs.BTreeMap.{is_at}
 use Rattle.std.specs.Ordering.{nat_cmp}
 use Rattle.paged_mem.specs.Memory.{page_of, is_reserved}
-use Rattle.paged_mem.proofs.Pages.{Puts, puts_from_update, lookup-page_of, is_reserved-some, is_reserved-none, is_reserved-puts, byte_of-puts}
+use Rattle.paged_mem.proofs.Pages.{Puts, puts_from_update, lookup-page_of, is_reserved-none, is_reserved-puts, byte_of-puts}
 use Rattle.paged_mem.proofs.memory.write_page.Goals as goal
 
 pub unreachable-requires : goal.unreachable-requires

@@ -1,6 +1,6 @@
-use Rattle.std.proofs.Common.{◌≡◌, ◌++◌, ◌<◌, length, take, drop, ◌∙◌, ap, sym, rules, arith}
+use Rattle.std.proofs.Common.{◌≡◌, ◌++◌, rules}
 use Rattle.std.proofs.lemmas.List.{take-append-drop}
-use Rattle.paged_mem.proofs.Writing.{writing_next, writing_end, held_at}
+use Rattle.paged_mem.proofs.Writing.{writing_next, writing_end}
 use Rattle.paged_mem.proofs.memory.write_pages.Goals as goal
 
 pub loop-rest-preserved : goal.loop-rest-preserved

@@ -1,5 +1,5 @@
 -- The witness is the range's first address in its first page, and a page's first address in each later one.
-use Rattle.std.proofs.Common.{◌≡◌, ℕ, ◌+◌, ◌*◌, ◌/◌, ◌-◌, ◌<◌, ◌≤◌, ◌⊎◌, inl, inr, arith}
+use Rattle.std.proofs.Common.{ℕ, ◌+◌, ◌*◌, ◌/◌, ◌-◌, ◌<◌, ◌≤◌, ◌⊎◌, inl, inr, arith}
 use Rattle.std.proofs.lemmas.Bool.{cases_lt}
 use Rattle.paged_mem.specs.Memory.{Meets}
 use Rattle.paged_mem.proofs.span.pages_met.Goals as goal

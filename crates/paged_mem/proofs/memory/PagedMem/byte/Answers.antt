@@ -1,4 +1,4 @@
-use Rattle.std.proofs.Common.{◌≡◌, ◌/◌, ◌%◌, sym, ◌∙◌, ap, Some, None}
+use Rattle.std.proofs.Common.{◌≡◌, ◌/◌, sym, ◌∙◌, Some, None}
 use Rattle.paged_mem.proofs.Pages.{lookup-page_of, byte_of-reserved, byte_of-unreserved}
 use Rattle.paged_mem.specs.Memory.{page_of}
 use Rattle.paged_mem.proofs.memory.PagedMem.byte.Goals as goal

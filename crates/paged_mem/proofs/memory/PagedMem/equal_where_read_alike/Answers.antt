@@ -1,4 +1,3 @@
-use Rattle.std.proofs.Common.{◌∙◌}
 use Rattle.paged_mem.proofs.Pages.{same_bytes}
 use Rattle.paged_mem.proofs.memory.PagedMem.equal_where_read_alike.Goals as goal
 

@@ -1,6 +1,5 @@
 -- A map without entries has no page, so each byte is 0.
-use Rattle.std.proofs.Common.{◌≡◌, ℕ, List, [], false, true, refl, sym, ◌∙◌}
-use mathlib.Core.Path.{fun_ext}
+use Rattle.std.proofs.Common.{◌≡◌, [], false, refl}
 use Rattle.paged_mem.specs.Memory.{Pages, page_of, is_reserved, byte_of, IsInAddressSpace}
 use Rattle.paged_mem.proofs.memory.PagedMem.new.Goals as goal
 

@@ -1,5 +1,5 @@
-use Rattle.std.proofs.Common.{◌≡◌, [], ◌∷◌, Some, ap, rules}
-use Rattle.paged_mem.specs.Memory.{Pages, page_of}
+use Rattle.std.proofs.Common.{◌≡◌, [], ◌∷◌, Some, rules}
+use Rattle.paged_mem.specs.Memory.{page_of}
 use Rattle.paged_mem.proofs.Pages.{is_reserved-some}
 use Rattle.paged_mem.proofs.Scan.{Scans, scans_start, scans_next, scans_first, scans_least, scans_end, has_byte}
 use Rattle.paged_mem.proofs.memory.PagedMem.page_from.Goals as goal

@@ -1,6 +1,6 @@
-use Rattle.std.proofs.Common.{◌≡◌, Some, None, sym, ◌∙◌, false, ap}
-use Rattle.paged_mem.specs.Memory.{page_of, is_reserved}
-use Rattle.paged_mem.proofs.Pages.{Puts, puts_from_update, puts_here, is_some-lookup, lookup-page_of, is_reserved-some, page_of-unreserved, byte_of-puts_zeros, reserved_before, reserved_after, in_address_space}
+use Rattle.std.proofs.Common.{◌≡◌, None, sym, ◌∙◌}
+use Rattle.paged_mem.specs.Memory.{page_of}
+use Rattle.paged_mem.proofs.Pages.{Puts, puts_from_update, puts_here, is_some-lookup, is_reserved-some, page_of-unreserved, byte_of-puts_zeros, reserved_before, reserved_after, in_address_space}
 use Rattle.paged_mem.proofs.memory.PagedMem.reserve_page.Goals as goal
 
 pub returns-then-contains_key-clause-ok : goal.returns-then-contains_key-clause-ok

@@ -1,5 +1,5 @@
 -- A page number that the loop looks at is met, since `pages_met` gives met numbers alone.
-use Rattle.std.proofs.Common.{◌≡◌, ℕ, ◌+◌, ◌<◌, ◌⊎◌, true, false, sym, ◌∙◌, ap, inl, inr, refl, arith}
+use Rattle.std.proofs.Common.{◌≡◌, ℕ, ◌+◌, ◌<◌, ◌⊎◌, false, sym, ◌∙◌, inl, inr, refl, arith}
 use Rattle.std.proofs.lemmas.Bool.{cases_eq}
 use Rattle.paged_mem.specs.Memory.{is_reserved, IsReserved, Meets}
 use Rattle.paged_mem.proofs.Pages.{is_some-lookup}
