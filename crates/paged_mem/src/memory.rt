@@ -4,7 +4,7 @@ ghost use Rattle.std.specs.Ordering.{nat_cmp};
 ghost use Rattle.paged_mem.specs.Memory.{page_of, is_reserved, byte_of, IsReserved, Meets, IsRangeReserved, MeetsUnreserved, overlaid, IsZeroPage, HasByte};
 
 use super::page::{LENGTH, PAGE_SIZE, Page};
-use super::span::pages_met;
+use super::span::{Span, pages_met};
 use ss_base::OutOfMemory;
 use std::alloc::Global;
 use std::collections::BTreeMap;
@@ -73,8 +73,8 @@ impl PagedMem {
         ensures held { IsTrue result ↔ IsRangeReserved self.now addr len }
         ensures missed { OnFalse result (MeetsUnreserved self.now addr len) }
     {
-        let met = pages_met(addr, len);
-        for number in met.first..met.end {
+        let Span { first, end } = pages_met(addr, len);
+        for number in first..end {
             if !self.pages.contains_key(&number) {
                 return false;
             }
