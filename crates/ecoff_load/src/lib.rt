@@ -13,4 +13,4 @@ mod tests;
 
 pub use image::{Image, Kind, Part, Parts, Text};
 pub use reading::{ObjectFault, read};
-pub use start::StartFault;
+pub use start::{StartFault, start_block};
