@@ -34,7 +34,7 @@ text_at strings k s within e =
 pub ended_strings-more : (args : List (List ℕ)) (k : ℕ) (s : List ℕ) → k < length args → get_or args k s ≡ s → length (ended_strings (take (k + 1) args)) ≡ length (ended_strings (take k args)) + (length s + 1)
 ended_strings-more args k s within e =
     let parts : ended_strings (take (k + 1) args) ≡ ended_strings (take k args) ++ ((s ++ 0 ∷ []) ++ []) =
-        ap ended_strings (take_more args k s within ∙ ap (λ x. take k args ++ x ∷ []) e) ∙ flat_map-append (λ x. x ++ 0 ∷ []) (take k args) (s ∷ []) in
+    ap ended_strings (take_more args k s within ∙ ap (λ x. take k args ++ x ∷ []) e) ∙ flat_map-append (λ x. x ++ 0 ∷ []) (take k args) (s ∷ []) in
     ap length parts ∙ omega (arith, length-append (ended_strings (take k args)) ((s ++ 0 ∷ []) ++ []), length-append (s ++ 0 ∷ []) [], length-append s (0 ∷ []))
 
 -- it ends where the block does, or before
@@ -53,9 +53,9 @@ pointers-more big args before now new k pointer written next pushed =
     ∙ ap (λ x. x ++ word_bytes big (pointer_to args k)) written
     ∙ append_assoc before (flat_map (word_bytes big) words) (word_bytes big (pointer_to args k))
     ∙ ap (λ x. before ++ x) (sym (
-        ap (flat_map (word_bytes big)) (map-range_with_len_more (pointer_to args) 0 k k (omega arith))
-        ∙ flat_map-append (word_bytes big) words (pointer_to args k ∷ [])
-        ∙ ap (λ x. flat_map (word_bytes big) words ++ x) (append-nil (word_bytes big (pointer_to args k)))))
+    ap (flat_map (word_bytes big)) (map-range_with_len_more (pointer_to args) 0 k k (omega arith))
+    ∙ flat_map-append (word_bytes big) words (pointer_to args k ∷ [])
+    ∙ ap (λ x. flat_map (word_bytes big) words ++ x) (append-nil (word_bytes big (pointer_to args k)))))
 
 regrouped : (w p z : List ℕ) → (((([] ++ w) ++ p) ++ z) ++ z) ≡ w ++ (p ++ (z ++ (z ++ [])))
 regrouped w p z = simp (append_assoc, append-nil)
@@ -69,7 +69,7 @@ block-laid big args n a b c d e f count is-a is-b is-c is-d is-e is-f =
     let front = λ (k : ℕ). word_bytes big k ++ flat_map (word_bytes big) (pointers k ++ 0 ∷ 0 ∷ []) in
     is-f
     ∙ ap (λ x. x ++ ended_strings args) (
-        is-e ∙ ap (λ x. x ++ zero) (is-d ∙ ap (λ x. x ++ zero) (is-c ∙ ap (λ x. x ++ flat_map (word_bytes big) (pointers n)) (is-b ∙ ap (λ x. x ++ word_bytes big n) is-a)))
-        ∙ regrouped (word_bytes big n) (flat_map (word_bytes big) (pointers n)) zero
-        ∙ ap (λ x. word_bytes big n ++ x) (sym (flat_map-append (word_bytes big) (pointers n) (0 ∷ 0 ∷ [])))
-        ∙ ap front count)
+    is-e ∙ ap (λ x. x ++ zero) (is-d ∙ ap (λ x. x ++ zero) (is-c ∙ ap (λ x. x ++ flat_map (word_bytes big) (pointers n)) (is-b ∙ ap (λ x. x ++ word_bytes big n) is-a)))
+    ∙ regrouped (word_bytes big n) (flat_map (word_bytes big) (pointers n)) zero
+    ∙ ap (λ x. word_bytes big n ++ x) (sym (flat_map-append (word_bytes big) (pointers n) (0 ∷ 0 ∷ [])))
+    ∙ ap front count)

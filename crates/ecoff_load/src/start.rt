@@ -47,9 +47,7 @@ fn block_length(args: &[String]) -> u64
 {
     let mut length = (args.len() as u64).saturating_add(3).saturating_mul(4);
     for arg in args {
-        length = length
-            .saturating_add(arg.len() as u64)
-            .saturating_add(1);
+        length = length.saturating_add(arg.len() as u64).saturating_add(1);
     }
     length
 }
@@ -101,3 +99,6 @@ fn push_strings(bytes: &mut Vec<u8>, args: &[String]) -> Result<(), AllocError>
     }
     Ok(())
 }
+
+#[cfg(test)]
+mod tests;

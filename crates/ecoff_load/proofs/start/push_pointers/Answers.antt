@@ -23,4 +23,5 @@ loop-arg-preserved c =
     let text = text_at c.args.args.now c.loop-arg.arg-index c.arg-item.result c.loop-arg-test.true c.arg-item.is in
     record {
       written = pointers-more c.args.big (map string_bytes c.args.args.now) _ _ _ c.loop-arg.arg-index _ c.loop-arg.invariant.written c.loop-arg.invariant.next c.in_ok-push_word.ensures;
-      next = omega (arith, ended_strings-more (map string_bytes c.args.args.now) c.loop-arg.arg-index (string_bytes c.arg-item.result) text.0 text.1, c.len.ensures, c.loop-arg.invariant.next) }
+      next = omega (arith, ended_strings-more (map string_bytes c.args.args.now) c.loop-arg.arg-index (string_bytes c.arg-item.result) text.0 text.1, c.len.ensures, c.loop-arg.invariant.next);
+    }

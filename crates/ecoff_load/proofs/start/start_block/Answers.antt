@@ -1,4 +1,4 @@
-use Rattle.std.proofs.Common.{◌≡◌, ◌<◌, ◌≤◌, map, min, length, arith, ap, ◌∙◌, sym}
+use Rattle.std.proofs.Common.{map, arith}
 use Rattle.std.specs.Prelude.{string_bytes}
 use Rattle.ecoff_load.proofs.Block.{length-block}
 use Rattle.ecoff_load.proofs.start.start_block.Goals as goal
