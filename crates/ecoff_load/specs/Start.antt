@@ -20,7 +20,7 @@ words_length args = 4 * (length args + 3)
 
 -- the address of a string, in a block that stands at 0x7fff8000
 abbrev pub pointer_to : List (List ℕ) → ℕ → ℕ
-pointer_to args k = 2147450880 + words_length args + length (ended_strings (take k args))
+pointer_to args k = 0x7fff8000 + words_length args + length (ended_strings (take k args))
 
 -- argc, the argv pointers, and two zeros
 abbrev pub block_words : List (List ℕ) → List ℕ
