@@ -1,3 +1,4 @@
 pub mod Words
 pub mod Fetch
 pub mod Object
+pub mod Start
