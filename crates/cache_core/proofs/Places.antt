@@ -1,17 +1,18 @@
 -- The line of a block, by its place among the lines.
-use Rattle.std.proofs.Common.{◌≡◌, ℕ, zero, suc, ◌+◌, ◌-◌, ◌*◌, ◌^◌, ◌<◌, ◌≤◌, Bool, true, false, cond, List, [], ◌∷◌, ◌++◌, length, get_or, set, take, drop, Option, Some, None, refl, sym, ◌∙◌, ap, subst, arith, length-set}
+use Rattle.std.proofs.Common.{◌≡◌, ℕ, zero, suc, ◌+◌, ◌-◌, ◌*◌, ◌^◌, ◌<◌, ◌≤◌, Bool, true, false, cond, List, [], ◌∷◌, ◌++◌, length, get_or, set, take, drop, map, Option, Some, None, refl, sym, ◌∙◌, ap, subst, arith, length-set}
 use Rattle.std.specs.Prelude.{All, position, remove, ◌==◌, if◌then◌else◌, slice_get}
-use Rattle.std.specs.Option.{option_map}
+use Rattle.std.specs.Option.{option_map, option_map_or}
 use Rattle.std.specs.List.{position_from}
 use Rattle.std.proofs.lemmas.Iterator.Adapters.{position_from-zero}
 use Rattle.std.proofs.lemmas.List.Quantifiers.{position-Some}
-use Rattle.std.proofs.lemmas.List.Edits.{length-remove}
-use Rattle.std.proofs.lemmas.List.Elements.{All-set, All-cons, All-append, All-take, All-drop, All-get_or}
+use Rattle.std.proofs.lemmas.List.Edits.{length-remove, map_over_more}
+use Rattle.std.proofs.lemmas.List.{get_or_default, length-map, append-nil, take_all, drop_all}
+use Rattle.std.proofs.lemmas.List.Elements.{All-set, All-cons, All-append, All-take, All-drop, All-get_or, All-map}
 use Rattle.cache_core.specs.declared.config.CacheConfig.{CacheConfig}
 use Rattle.cache_core.specs.declared.answers.Touch.{Touch}
 use Rattle.cache_core.specs.declared.answers.Victim.{Victim}
 use Rattle.cache_core.specs.declared.sets.Line.{Line}
-use Rattle.cache_core.specs.Replay.{line_of, without, changed, marked, victim_of, touched, touched_at}
+use Rattle.cache_core.specs.Replay.{line_of, without, changed, marked, ending_at, victim_of, touched, touched_at}
 use Rattle.cache_core.specs.Stands.{HeldSet, IsSoundSet}
 
 abbrev pub is_of : ℕ → Line → Bool
@@ -117,12 +118,17 @@ renewed_sound c b i write s d room e sound more new is =
       space = subst (All (λ l. l.block * c.block < 2 ^ 32)) (sym is) (renewed_space (λ l. l.block * c.block < 2 ^ 32) (λ w l p. p) c.fifo write i s.lines d f.inside sound.space);
     }
 
--- one line changed where it stands
-pub changed_found : (b i : ℕ) (f : Line → Line) (given lines : List Line) (answer : Option ℕ) → answer ≡ position (is_of b) given → given ≡ lines → answer ≡ Some i
-    → (i < length lines) × ((d : Line) → set lines i (f (get_or lines i d)) ≡ changed b f lines)
-changed_found b i f given lines answer e same is =
-    let place = place_in b given lines answer (Some i) e same is in
-    ((found_at b i lines blank place).inside, λ d. sym ((found_at b i lines d place).changed f))
+-- the line of the place read, and changed where it stands
+pub changed_at : (b i : ℕ) (f : Line → Line) (lines : List Line) (x : Line) → position (is_of b) lines ≡ Some i → x ≡ get_or lines i x
+    → set lines i (f x) ≡ changed b f lines
+changed_at b i f lines x place e = ap (λ y. set lines i (f y)) e ∙ sym ((found_at b i lines x place).changed f)
+
+pub fill_end_at : (b i : ℕ) (lines : List Line) (x : Line) → position (is_of b) lines ≡ Some i → x ≡ get_or lines i x
+    → x.fill_end ≡ option_map_or (λ l. l.fill_end) (line_of b lines) 0
+fill_end_at b i lines x place e = ap (λ y. y.fill_end) e ∙ ap (λ o. option_map_or (λ (l : Line). l.fill_end) o 0) (sym (found_at b i lines x place).line)
+
+pub fill_end_none : (b : ℕ) (lines : List Line) → position (is_of b) lines ≡ None → 0 ≡ option_map_or (λ l. l.fill_end) (line_of b lines) 0
+fill_end_none b lines place = ap (λ o. option_map_or (λ (l : Line). l.fill_end) o 0) (sym (nowhere b lines place))
 
 pub changed_none : (b : ℕ) (f : Line → Line) (lines : List Line) → line_of b lines ≡ None → changed b f lines ≡ lines
 changed_none b f [] e = refl
@@ -132,3 +138,24 @@ changed_none b f (l ∷ lines) e = by_case (is_of b l) (changed_none b f lines) 
         → cond t (f l ∷ lines) (l ∷ changed b f lines) ≡ l ∷ lines
     by_case true ih e = absurd cc
     by_case false ih e = ap (λ ls. l ∷ ls) (ih e)
+
+-- a loop that settles each line
+pub settled_more : (i : ℕ) (old new : List Line) → i < length new → length new ≡ length old → new ≡ map (ending_at 0) (take i old) ++ drop i old
+    → set new i (ending_at 0 (get_or new i blank)) ≡ map (ending_at 0) (take (i + 1) old) ++ drop (i + 1) old
+settled_more i old new inside same e =
+    map_over_more (ending_at 0) old new i (get_or new i blank) (omega arith) e (get_or_default new i blank (get_or new i blank) inside)
+
+pub settled_all : (i : ℕ) (old new items : List Line) → length new ≤ i → length new ≡ length old → new ≡ map (ending_at 0) (take i old) ++ drop i old → old ≡ items
+    → new ≡ map (ending_at 0) items
+settled_all i old new items le same e is =
+    let all : length old ≤ i = omega arith in
+    e ∙ (ap (λ ls. map (ending_at 0) ls ++ drop i old) (take_all i old all) ∙ (ap (λ ls. map (ending_at 0) old ++ ls) (drop_all i old all) ∙ (append-nil (map (ending_at 0) old) ∙ ap (map (ending_at 0)) is)))
+
+pub settled_set : (c : CacheConfig) (s : HeldSet) (lines : List Line) → lines ≡ map (ending_at 0) s.lines → IsSoundSet c s → IsSoundSet c (record { lines = lines; room = s.room })
+settled_set c s lines e sound =
+    let full : length s.lines ≤ c.ways = sound.full in
+    record {
+      full = omega (arith, ap length e, length-map s.lines (ending_at 0));
+      room = sound.room;
+      space = subst (All (λ l. l.block * c.block < 2 ^ 32)) (sym e) (All-map (λ (l : Line). l.block * c.block < 2 ^ 32) (ending_at 0) s.lines sound.space);
+    }
