@@ -57,7 +57,7 @@ met_lines v h old b sound st e =
     let n : length v.sets ≡ v.config.sets = sound.number in
     ap (λ (s : HeldSet). s.lines) (set_at-read v.sets (set_of v.config b) old below e) ∙ st.lines (set_of v.config b) (omega arith)
 
-counts_from : (a b c d e a' b' c' d' e' : ℕ) → a ≡ a' → b ≡ b' → c ≡ c' → d ≡ d' → e ≡ e'
+pub counts_from : (a b c d e a' b' c' d' e' : ℕ) → a ≡ a' → b ≡ b' → c ≡ c' → d ≡ d' → e ≡ e'
     → ◌≡◌ {A = Counts} (record { accesses = a; hits = b; misses = c; replacements = d; writebacks = e }) (record { accesses = a'; hits = b'; misses = c'; replacements = d'; writebacks = e' })
 counts_from a b c d e a' b' c' d' e' p q r s t = cc
 

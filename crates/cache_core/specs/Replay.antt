@@ -42,6 +42,10 @@ marked write l = record l { dirty = l.dirty || write }
 abbrev pub ending_at : ℕ → Line → Line
 ending_at end l = record l { fill_end = end }
 
+-- the line of a block that comes in
+abbrev pub entering : ℕ → Bool → Line
+entering b write = record { block = b; dirty = write; fill_end = 0 }
+
 -- what is told of a line that leaves: its block's first address, and whether it is dirty
 abbrev pub victim_of : CacheConfig → Line → Victim
 victim_of c l = record { addr = l.block * c.block; dirty = l.dirty }
@@ -63,7 +67,7 @@ touched_at c lines b write (Some l) =
 touched_at c lines b write None =
     record {
       touch = record { hit = false; victim = option_map (victim_of c) (slice_get lines (c.ways - 1)) };
-      lines = record { block = b; dirty = write; fill_end = 0 } ∷ take (c.ways - 1) lines;
+      lines = entering b write ∷ take (c.ways - 1) lines;
     }
 
 unfoldable pub touched : CacheConfig → List Line → ℕ → Bool → SetTouch
