@@ -1,5 +1,5 @@
 -- Laws of bytes that begin with a front.
-use Rattle.std.specs.Prelude.{◌≡◌, ◌≤◌, ◌++◌, ℕ, List, length, take}
+use Rattle.std.specs.Prelude.{◌≤◌, ◌++◌, ℕ, List, length, take}
 use Rattle.std.proofs.Common.{sym, ◌∙◌, ap, arith}
 use Rattle.std.proofs.lemmas.List.{take-take, length-take, take-append-le}
 use Rattle.std.proofs.Math.Seq.{take-append_seam}

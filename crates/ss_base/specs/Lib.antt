@@ -3,3 +3,4 @@ pub mod Memory
 pub mod Listed
 pub mod Text
 pub mod Begins
+pub mod Known

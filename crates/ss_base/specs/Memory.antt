@@ -1,5 +1,5 @@
 -- Files and streams in memory, of which chosen calls fail.
-use Rattle.std.specs.Prelude.{◌≡◌, ◌≢◌, ◌+◌, ◌-◌, ◌^◌, ◌≤◌, ℕ, List, Option, Contains, Vec, String, min}
+use Rattle.std.specs.Prelude.{◌+◌, ◌-◌, ◌^◌, ◌≤◌, ℕ, List, Contains, Vec, String, min}
 use Rattle.std.specs.Option.{option_map}
 use Rattle.std.specs.BTreeMap.{BTreeMap, get_by_text}
 use Rattle.ss_base.specs.Outside.{Files}

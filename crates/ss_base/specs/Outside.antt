@@ -1,5 +1,5 @@
 -- What files and streams hold, and what each call does to it.
-use Rattle.std.specs.Prelude.{◌≡◌, ◌≢◌, ◌+◌, ◌-◌, ◌^◌, ◌≤◌, ◌<◌, ◌++◌, ◌⊎◌, ℕ, List, [], length, take, min, Option, Some, None, Result, Ok, Err, unwrap_or}
+use Rattle.std.specs.Prelude.{◌≡◌, ◌≢◌, ◌+◌, ◌-◌, ◌^◌, ◌≤◌, ◌<◌, ◌++◌, ◌⊎◌, ℕ, List, [], length, take, min, Option, Some, Result, Ok, Err, unwrap_or}
 use Rattle.ss_base.specs.declared.fault.PutFault.{PutFault}
 use Rattle.ss_base.specs.declared.fault.PutFault.TheVariants as put
 use Rattle.ss_base.specs.declared.fault.LoadFault.{LoadFault}

@@ -1,5 +1,5 @@
 -- Numbers as text, and little-endian fields of bytes.
-use Rattle.std.specs.Prelude.{◌≡◌, ◌+◌, ◌*◌, ◌/◌, ◌%◌, ℕ, List, [], ◌∷◌, slice_index, nat_lt, if◌then◌else◌}
+use Rattle.std.specs.Prelude.{◌+◌, ◌*◌, ◌/◌, ◌%◌, ℕ, List, [], ◌∷◌, slice_index, nat_lt, if◌then◌else◌}
 
 -- the digit of a number below 16, with lower-case letters
 abbrev pub hex_digit : ℕ → ℕ

@@ -12,6 +12,8 @@ mod fault;
 mod host;
 mod memory;
 mod outside;
+#[cfg(test)]
+mod tests;
 mod text;
 
 pub use bytes::{Bytes, Name};
