@@ -1,14 +1,13 @@
 -- The laws of the replay.
-use Rattle.std.proofs.Common.{◌≡◌, ◌≢◌, ℕ, zero, suc, ◌+◌, ◌-◌, ◌<◌, ◌≤◌, Bool, true, false, cond, List, [], ◌∷◌, length, take, map, Option, Some, None, ◌⊎◌, inl, inr, refl, sym, ◌∙◌, ap, subst, arith}
-use Rattle.std.specs.Prelude.{◌==◌, if◌then◌else◌, IsSome, IsTrue, All, not, ◌↔◌, slice_get, is_some}
+use Rattle.std.proofs.Common.{◌≡◌, ◌≢◌, ℕ, zero, suc, ◌+◌, ◌-◌, ◌≤◌, Bool, true, false, cond, List, [], ◌∷◌, length, map, Option, Some, None, ◌⊎◌, inl, inr, refl, sym, ◌∙◌, ap, subst, arith}
+use Rattle.std.specs.Prelude.{◌==◌, if◌then◌else◌, IsSome, All, not, ◌↔◌, slice_get, is_some}
 use Rattle.std.specs.Option.{option_map, option_map_or}
-use Rattle.std.proofs.lemmas.Bool.{eqb-true, eqb-false, eq-eqb, ne_eqb, cases_eq, both_ways}
+use Rattle.std.proofs.lemmas.Bool.{eqb-true, eq-eqb, cases_eq, both_ways}
 use Rattle.std.proofs.lemmas.List.{length-map, take-map}
 use Rattle.std.proofs.lemmas.List.Elements.{All-nil, All-map}
 use Rattle.cache_core.specs.declared.config.CacheConfig.{CacheConfig}
 use Rattle.cache_core.specs.declared.answers.Touch.{Touch}
 use Rattle.cache_core.specs.declared.answers.Victim.{Victim}
-use Rattle.cache_core.specs.declared.answers.Counts.{Counts}
 use Rattle.cache_core.specs.declared.sets.Line.{Line}
 use Rattle.cache_core.specs.Replay.{Call, Access, Fill, Settle, block_of, set_of, line_of, without, changed, marked, ending_at, entering, victim_of, touched, touched_at, lines_of, touch_of, line_at, fill_end_of, number_of, replaces, writes_back, counts_of}
 use Rattle.cache_core.specs.Stands.{IsBalanced}
@@ -78,8 +77,8 @@ hit_kept c h addr write is =
       victim = touched-hit_victim c b write here is;
       own = access_own c h addr write ∙ (touched-hit_own c here b write l e ∙ ap (option_map (marked write)) (sym e));
       others = λ x ne.
-        set_cases (λ ls. line_of x ls ≡ line_of x (lines_of c (set_of c x) h)) c b (set_of c x) _ _
-        (λ s. touched-hit_other c (lines_of c (set_of c x) h) b write l (subst (λ k. line_of b (lines_of c k h) ≡ Some l) s e) x ne) refl;
+          set_cases (λ ls. line_of x ls ≡ line_of x (lines_of c (set_of c x) h)) c b (set_of c x) _ _
+          (λ s. touched-hit_other c (lines_of c (set_of c x) h) b write l (subst (λ k. line_of b (lines_of c k h) ≡ Some l) s e) x ne) refl;
     }
 
 option_map-IsSome : {X Y : Type 0} (f : X → Y) (o : Option X) → is_some (option_map f o) ≡ is_some o
@@ -97,12 +96,12 @@ miss_kept c h addr write some none =
     record {
       own = access_own c h addr write ∙ touched-miss_own c here b write none;
       others = λ x ne.
-        set_cases
-        (λ ls. (line_of x ls ≡ line_of x (lines_of c (set_of c x) h)) ⊎ ((l : Line) × (line_of x (lines_of c (set_of c x) h) ≡ Some l) × ((touched c here b write).touch.victim ≡ Some (victim_of c l)) × (line_of x ls ≡ None)))
-        c b (set_of c x) _ _
-        (λ s. subst (λ k. (line_of x (touched c (lines_of c k h) b write).lines ≡ line_of x (lines_of c k h)) ⊎ ((l : Line) × (line_of x (lines_of c k h) ≡ Some l) × ((touched c here b write).touch.victim ≡ Some (victim_of c l)) × (line_of x (touched c (lines_of c k h) b write).lines ≡ None))) s
+          set_cases
+          (λ ls. (line_of x ls ≡ line_of x (lines_of c (set_of c x) h)) ⊎ ((l : Line) × (line_of x (lines_of c (set_of c x) h) ≡ Some l) × ((touched c here b write).touch.victim ≡ Some (victim_of c l)) × (line_of x ls ≡ None)))
+          c b (set_of c x) _ _
+          (λ s. subst (λ k. (line_of x (touched c (lines_of c k h) b write).lines ≡ line_of x (lines_of c k h)) ⊎ ((l : Line) × (line_of x (lines_of c k h) ≡ Some l) × ((touched c here b write).touch.victim ≡ Some (victim_of c l)) × (line_of x (touched c (lines_of c k h) b write).lines ≡ None))) s
           (touched-miss_other c here b write none some le x ne))
-        (inl refl);
+          (inl refl);
       full = (λ v. let q : length here ≡ suc (c.ways - 1) = full.0 (sym victim ∙ v) in omega arith, λ q. victim ∙ full.1 (omega arith));
     }
 
@@ -179,11 +178,11 @@ unfolding lines_of line_at
 fill_ends_kept c h some =
     record {
       fill = λ addr end.
-        let b = block_of c addr in
-        rw (eq-eqb (set_of c b) (set_of c b) refl) (line_of-changed b (ending_at end) (λ l. refl) (lines_of c (set_of c b) h));
+          let b = block_of c addr in
+          rw (eq-eqb (set_of c b) (set_of c b) refl) (line_of-changed b (ending_at end) (λ l. refl) (lines_of c (set_of c b) h));
       others = λ addr end x ne.
-        set_cases (λ ls. line_of x ls ≡ line_of x (lines_of c (set_of c x) h)) c (block_of c addr) (set_of c x) _ _
-        (λ s. line_of-changed_other (block_of c addr) (ending_at end) (λ l. refl) x ne (lines_of c (set_of c x) h)) refl;
+          set_cases (λ ls. line_of x ls ≡ line_of x (lines_of c (set_of c x) h)) c (block_of c addr) (set_of c x) _ _
+          (λ s. line_of-changed_other (block_of c addr) (ending_at end) (λ l. refl) x ne (lines_of c (set_of c x) h)) refl;
       settle = λ x. line_of-map 0 (ending_at 0) (λ l. refl) x (lines_of c (set_of c x) h);
       stays = fill_end_stays c h some;
       enters = fill_end_enters c h some;
@@ -264,7 +263,7 @@ touched-settled : (c : CacheConfig) (lines : List Line) (b : ℕ) (write : Bool)
 unfolding touched
 touched-settled c lines b write =
     subst (λ o. ((touched_at c lines b write (line_of b lines)).touch ≡ (touched_at c (map (ending_at 0) lines) b write o).touch)
-        × (map (ending_at 0) (touched_at c lines b write (line_of b lines)).lines ≡ (touched_at c (map (ending_at 0) lines) b write o).lines))
+    × (map (ending_at 0) (touched_at c lines b write (line_of b lines)).lines ≡ (touched_at c (map (ending_at 0) lines) b write o).lines))
     (sym (line_of-map 0 (ending_at 0) (λ l. refl) b lines)) (by_case (line_of b lines))
   where
     on_hit : (fifo : Bool) (l : Line) → map (ending_at 0) (hit_lines fifo b write lines l) ≡ hit_lines fifo b write (map (ending_at 0) lines) (ending_at 0 l)
@@ -274,9 +273,10 @@ touched-settled c lines b write =
     by_case : (o : Option Line) → ((touched_at c lines b write o).touch ≡ (touched_at c (map (ending_at 0) lines) b write (option_map (ending_at 0) o)).touch)
         × (map (ending_at 0) (touched_at c lines b write o).lines ≡ (touched_at c (map (ending_at 0) lines) b write (option_map (ending_at 0) o)).lines)
     by_case (Some l) = (refl, on_hit c.fifo l)
-    by_case None =
-        (ap (λ v. let t : Touch = record { hit = false; victim = v } in t) (sym (last_settled c (c.ways - 1) lines)),
-         ap (λ ls. entering b write ∷ ls) (sym (take-map (ending_at 0) (c.ways - 1) lines)))
+    by_case None = (
+      ap (λ v. let t : Touch = record { hit = false; victim = v } in t) (sym (last_settled c (c.ways - 1) lines)),
+      ap (λ ls. entering b write ∷ ls) (sym (take-map (ending_at 0) (c.ways - 1) lines)),
+    )
 
 lines_alone : (c : CacheConfig) (k : ℕ) (h : List Call) → map (ending_at 0) (lines_of c k h) ≡ lines_of c k (references h)
 unfolding lines_of

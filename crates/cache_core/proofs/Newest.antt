@@ -1,12 +1,11 @@
 -- Which blocks a set holds, by the order of accesses or of misses.
-use Rattle.std.proofs.Common.{◌≡◌, ◌≢◌, ℕ, zero, suc, ◌+◌, ◌-◌, ◌<◌, ◌≤◌, Bool, true, false, cond, List, [], ◌∷◌, take, map, Option, Some, None, refl, sym, ◌∙◌, ap, subst, arith}
-use Rattle.std.specs.Prelude.{◌==◌, if◌then◌else◌, is_some, not, filter, find}
-use Rattle.std.specs.Option.{option_map}
-use Rattle.std.proofs.lemmas.Bool.{eqb-true, eqb-false, eq-eqb, ne_eqb, both_ways}
+use Rattle.std.proofs.Common.{◌≡◌, ◌≢◌, ℕ, zero, suc, ◌-◌, ◌≤◌, Bool, true, false, cond, List, [], ◌∷◌, take, map, Option, Some, None, refl, sym, ◌∙◌, ap, subst, arith}
+use Rattle.std.specs.Prelude.{◌==◌, if◌then◌else◌, is_some, not, filter}
+use Rattle.std.proofs.lemmas.Bool.{eqb-true, eqb-false, both_ways}
 use Rattle.std.proofs.lemmas.List.{take-map, take-take}
 use Rattle.cache_core.specs.declared.config.CacheConfig.{CacheConfig}
 use Rattle.cache_core.specs.declared.sets.Line.{Line}
-use Rattle.cache_core.specs.Replay.{Call, Access, Fill, Settle, block_of, set_of, line_of, without, changed, marked, ending_at, entering, touched, lines_of, touch_of}
+use Rattle.cache_core.specs.Replay.{Call, Access, Fill, Settle, block_of, set_of, line_of, without, changed, marked, ending_at, touched, lines_of, touch_of}
 use Rattle.cache_core.specs.Laws.{recent, missed, IsReplacing}
 use Rattle.cache_core.proofs.Lines.{line_of-is}
 use Rattle.cache_core.proofs.Touches.{touched-hit, lines-hit, lines-miss, hit_lines}
@@ -196,7 +195,7 @@ first c n ways fifo k [] = refl
 first c n ways fifo k (Access addr write ∷ h) =
     by_equal
     (λ t. blocks (cond t (touched c (lines_of c k h) (block_of c addr) write).lines (lines_of c k h))
-        ≡ take (suc n) (cond t (if (touched c (lines_of c (set_of c (block_of c addr)) h) (block_of c addr) write).touch.hit then missed c k h else block_of c addr ∷ missed c k h) (missed c k h)))
+    ≡ take (suc n) (cond t (if (touched c (lines_of c (set_of c (block_of c addr)) h) (block_of c addr) write).touch.hit then missed c k h else block_of c addr ∷ missed c k h) (missed c k h)))
     (set_of c (block_of c addr)) k (λ s. own s (first c n ways fifo k h)) (λ o. first c n ways fifo k h)
   where
     own : set_of c (block_of c addr) ≡ k → blocks (lines_of c k h) ≡ take (suc n) (missed c k h)

@@ -10,7 +10,6 @@ use Rattle.std.proofs.lemmas.List.{get_or_default, length-map, append-nil, take_
 use Rattle.std.proofs.lemmas.List.Elements.{All-set, All-cons, All-append, All-take, All-drop, All-get_or, All-map}
 use Rattle.cache_core.specs.declared.config.CacheConfig.{CacheConfig}
 use Rattle.cache_core.specs.declared.answers.Touch.{Touch}
-use Rattle.cache_core.specs.declared.answers.Victim.{Victim}
 use Rattle.cache_core.specs.declared.sets.Line.{Line}
 use Rattle.cache_core.specs.Replay.{line_of, without, changed, marked, ending_at, victim_of, touched, touched_at}
 use Rattle.cache_core.specs.Stands.{HeldSet, IsSoundSet}

@@ -1,19 +1,18 @@
 -- A cache stands for one call more.
-use Rattle.std.proofs.Common.{◌≡◌, ◌≢◌, ℕ, zero, suc, ◌+◌, ◌-◌, ◌*◌, ◌/◌, ◌%◌, ◌^◌, ◌<◌, ◌≤◌, Bool, true, false, cond, List, [], ◌∷◌, ◌++◌, length, get_or, set, take, drop, map, replicate, Option, Some, None, refl, sym, ◌∙◌, ap, subst, arith, get_or-set_same, get_or-set_other, length-set, below_more}
-use Rattle.std.specs.Prelude.{◌==◌, if◌then◌else◌, not, IsTrue, IsSome, slice_get, All}
+use Rattle.std.proofs.Common.{◌≡◌, ◌≢◌, ℕ, zero, suc, ◌+◌, ◌-◌, ◌<◌, ◌≤◌, Bool, true, false, cond, List, [], ◌∷◌, ◌++◌, length, get_or, set, take, drop, map, replicate, Option, Some, None, refl, sym, ◌∙◌, ap, subst, arith, get_or-set_same, get_or-set_other, length-set, below_more}
+use Rattle.std.specs.Prelude.{◌==◌, if◌then◌else◌, not, IsTrue, IsSome, All}
 use Rattle.std.specs.Int.{is_power_of_two}
 use Rattle.std.specs.Int.Count.{ones}
-use Rattle.std.specs.Option.{option_map, option_map_or}
-use Rattle.std.proofs.lemmas.Bool.{eqb-true, eqb-false, eq-eqb, ne_eqb}
+use Rattle.std.specs.Option.{option_map_or}
+use Rattle.std.proofs.lemmas.Bool.{eqb-true, eqb-false}
 use Rattle.std.proofs.lemmas.List.{get_or_read, get_or_default, get_or-replicate, append-nil, take_all, drop_all}
 use Rattle.std.proofs.lemmas.List.Elements.{All-set, All-get_or}
 use Rattle.cache_core.specs.declared.config.CacheConfig.{CacheConfig}
 use Rattle.cache_core.specs.declared.answers.Touch.{Touch}
 use Rattle.cache_core.specs.declared.answers.Counts.{Counts}
 use Rattle.cache_core.specs.declared.sets.Line.{Line}
-use Rattle.cache_core.specs.Limits.{IsWithinLimits}
-use Rattle.cache_core.specs.Replay.{Call, Access, Fill, Settle, block_of, set_of, line_of, without, changed, marked, ending_at, touched, touched_at, lines_of, touch_of, line_at, fill_end_of, number_of, replaces, writes_back, counts_of}
-use Rattle.cache_core.specs.Stands.{HeldSet, Held, StandsFor, IsSound, IsSoundSet, set_at, Holds}
+use Rattle.cache_core.specs.Replay.{Call, Access, Fill, Settle, block_of, set_of, line_of, without, changed, marked, ending_at, touched, touched_at, lines_of, touch_of, line_at, fill_end_of, number_of, replaces, writes_back}
+use Rattle.cache_core.specs.Stands.{HeldSet, Held, StandsFor, IsSound, IsSoundSet, set_at}
 use Rattle.cache_core.proofs.Lines.{line_of-head, line_of-changed, line_of-is}
 
 abbrev pub empty : HeldSet
@@ -193,8 +192,8 @@ settling_more i old new x s so inside is sound =
     let was : set_at new i ≡ set_at old i = so.others i (omega arith) in
     record {
       lines = below_more (λ j. (set_at (set new i s) j).lines ≡ map (ending_at 0) (set_at old j).lines) i
-        (λ j lt. let ne : j ≢ i = omega arith in ap (λ (y : HeldSet). y.lines) (get_or-set_other new i j s empty ne) ∙ so.lines j lt)
-        (ap (λ (y : HeldSet). y.lines) (get_or-set_same new i s empty inside) ∙ (is ∙ ap (λ (y : HeldSet). map (ending_at 0) y.lines) (here ∙ was)));
+          (λ j lt. let ne : j ≢ i = omega arith in ap (λ (y : HeldSet). y.lines) (get_or-set_other new i j s empty ne) ∙ so.lines j lt)
+          (ap (λ (y : HeldSet). y.lines) (get_or-set_same new i s empty inside) ∙ (is ∙ ap (λ (y : HeldSet). map (ending_at 0) y.lines) (here ∙ was)));
       others = λ j le. let ne : j ≢ i = omega arith in get_or-set_other new i j s empty ne ∙ so.others j (omega arith);
       number = length-set new i s ∙ so.number;
       sound = λ c all. let before = so.sound c all in All-set (IsSoundSet c) new i s (sound c (subst (IsSoundSet c) (sym here) (All-get_or (IsSoundSet c) new i empty inside before))) before;

@@ -1,13 +1,12 @@
 -- What an access does to the lines of a set.
-use Rattle.std.proofs.Common.{◌≡◌, ◌≢◌, ℕ, zero, suc, ◌+◌, ◌-◌, ◌<◌, ◌≤◌, Bool, true, false, cond, List, [], ◌∷◌, ◌++◌, length, take, map, Option, Some, None, ◌⊎◌, inl, inr, refl, sym, ◌∙◌, ap, subst, arith, length-take}
-use Rattle.std.specs.Prelude.{◌==◌, if◌then◌else◌, slice_get, is_some, IsSome, All, filter, not, ◌↔◌}
+use Rattle.std.proofs.Common.{◌≡◌, ◌≢◌, ℕ, zero, suc, ◌-◌, ◌≤◌, Bool, true, false, cond, List, [], ◌∷◌, length, take, map, Option, Some, None, ◌⊎◌, inl, inr, refl, sym, ◌∙◌, ap, subst, arith, length-take}
+use Rattle.std.specs.Prelude.{◌==◌, if◌then◌else◌, slice_get, is_some, IsSome, All, ◌↔◌}
 use Rattle.std.specs.Option.{option_map}
-use Rattle.std.proofs.lemmas.Bool.{eqb-true, eqb-false, eq-eqb, ne_eqb}
-use Rattle.std.proofs.lemmas.List.Elements.{All-cons, All-nil, All-head, All-tail, All-take}
+use Rattle.std.proofs.lemmas.Bool.{eq-eqb, ne_eqb}
+use Rattle.std.proofs.lemmas.List.Elements.{All-cons, All-head, All-tail, All-take}
 use Rattle.cache_core.specs.declared.config.CacheConfig.{CacheConfig}
-use Rattle.cache_core.specs.declared.answers.Touch.{Touch}
 use Rattle.cache_core.specs.declared.sets.Line.{Line}
-use Rattle.cache_core.specs.Replay.{line_of, without, changed, marked, ending_at, entering, victim_of, touched, touched_at}
+use Rattle.cache_core.specs.Replay.{line_of, without, changed, marked, entering, victim_of, touched, touched_at}
 use Rattle.cache_core.specs.Laws.{IsOnce}
 use Rattle.cache_core.proofs.Lines.{line_of-head, line_of-tail, of_block, line_of-is, line_of-changed, line_of-changed_other, line_of-map, line_of-without_other, line_of-take, line_of-take_none, Leaves}
 
@@ -111,11 +110,11 @@ without-none x b (l ∷ lines) e =
     of_block (line_of x (without b (l ∷ lines)) ≡ None) x l
     (λ s. let e' = sym (line_of-head x l lines s) ∙ e in absurd cc)
     (λ o.
-      let none = sym (line_of-tail x l lines o) ∙ e in
-      elim (l.block == b) as (λ t. line_of x (cond t lines (l ∷ without b lines)) ≡ None) [
-        | true ↦ none
-        | false ↦ line_of-tail x l (without b lines) o ∙ without-none x b lines none
-      ])
+    let none = sym (line_of-tail x l lines o) ∙ e in
+    elim (l.block == b) as (λ t. line_of x (cond t lines (l ∷ without b lines)) ≡ None) [
+      | true ↦ none
+      | false ↦ line_of-tail x l (without b lines) o ∙ without-none x b lines none
+    ])
 
 without_once : (b : ℕ) (lines : List Line) → IsOnce lines → IsOnce (without b lines)
 without_once b [] o = o
@@ -138,11 +137,11 @@ changed-none x b f keeps (l ∷ lines) e =
     of_block (line_of x (changed b f (l ∷ lines)) ≡ None) x l
     (λ s. let e' = sym (line_of-head x l lines s) ∙ e in absurd cc)
     (λ o.
-      let none = sym (line_of-tail x l lines o) ∙ e in
-      elim (l.block == b) as (λ t. line_of x (cond t (f l ∷ lines) (l ∷ changed b f lines)) ≡ None) [
-        | true ↦ line_of-tail x (f l) lines (λ s. o (sym (keeps l) ∙ s)) ∙ none
-        | false ↦ line_of-tail x l (changed b f lines) o ∙ changed-none x b f keeps lines none
-      ])
+    let none = sym (line_of-tail x l lines o) ∙ e in
+    elim (l.block == b) as (λ t. line_of x (cond t (f l ∷ lines) (l ∷ changed b f lines)) ≡ None) [
+      | true ↦ line_of-tail x (f l) lines (λ s. o (sym (keeps l) ∙ s)) ∙ none
+      | false ↦ line_of-tail x l (changed b f lines) o ∙ changed-none x b f keeps lines none
+    ])
 
 pub changed_once : (b : ℕ) (f : Line → Line) → ((l : Line) → (f l).block ≡ l.block) → (lines : List Line) → IsOnce lines → IsOnce (changed b f lines)
 changed_once b f keeps [] o = o

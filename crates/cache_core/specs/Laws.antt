@@ -1,5 +1,5 @@
 -- Laws of the replay, in words of their own.
-use Rattle.std.specs.Prelude.{◌≡◌, ◌≢◌, ℕ, ◌+◌, ◌<◌, ◌≤◌, ◌↔◌, ◌⊎◌, Bool, true, false, not, List, [], ◌∷◌, length, Option, Some, None, IsTrue, IsSome, ◌==◌, if◌then◌else◌, filter, take, map, All}
+use Rattle.std.specs.Prelude.{◌≡◌, ◌≢◌, ℕ, ◌+◌, ◌≤◌, ◌↔◌, ◌⊎◌, Bool, true, false, not, List, [], ◌∷◌, length, Some, None, IsTrue, IsSome, ◌==◌, if◌then◌else◌, filter, take, map, All}
 use Rattle.std.specs.Option.{option_map}
 use Rattle.cache_core.specs.declared.config.CacheConfig.{CacheConfig}
 use Rattle.cache_core.specs.declared.sets.Line.{Line}
@@ -94,3 +94,16 @@ missed c k (Settle ∷ h) = missed c k h
 pub record IsReplacing (c : CacheConfig) (h : List Call) (k : ℕ) : Type 0 where
   pub least_recently_used : c.fifo ≡ false → map (λ l. l.block) (lines_of c k h) ≡ take c.ways (recent c k h)
   pub first_in_first_out : c.fifo ≡ true → map (λ l. l.block) (lines_of c k h) ≡ take c.ways (missed c k h)
+
+-- five accesses of blocks A B A C A, the last one first, in a cache of one set of two ways; only the first may write
+abbrev pub two_ways : Bool → CacheConfig
+two_ways fifo = record { sets = 1; block = 32; ways = 2; fifo = fifo }
+
+abbrev pub five_accesses : Bool → List Call
+five_accesses write = Access 0 false ∷ (Access 64 false ∷ (Access 0 false ∷ (Access 32 false ∷ (Access 0 write ∷ []))))
+
+pub record FiveAccesses : Type 0 where
+  pub lru_reads : counts_of (two_ways false) (five_accesses false) ≡ record { accesses = 5; hits = 2; misses = 3; replacements = 1; writebacks = 0 }
+  pub lru_write : counts_of (two_ways false) (five_accesses true) ≡ record { accesses = 5; hits = 2; misses = 3; replacements = 1; writebacks = 0 }
+  pub fifo_reads : counts_of (two_ways true) (five_accesses false) ≡ record { accesses = 5; hits = 1; misses = 4; replacements = 2; writebacks = 0 }
+  pub fifo_write : counts_of (two_ways true) (five_accesses true) ≡ record { accesses = 5; hits = 1; misses = 4; replacements = 2; writebacks = 1 }

@@ -1,5 +1,5 @@
 -- The sizes that a cache may have.
-use Rattle.std.specs.Prelude.{ℕ, ◌*◌, ◌≤◌, IsTrue}
+use Rattle.std.specs.Prelude.{◌*◌, ◌≤◌, IsTrue}
 use Rattle.std.specs.Int.{is_power_of_two}
 use Rattle.cache_core.specs.declared.config.CacheConfig.{CacheConfig}
 

@@ -1,8 +1,7 @@
-ghost use Rattle.std.specs.Prelude.{ℕ, ◌≤◌, List};
-ghost use Rattle.std.specs.Prelude.{Bool};
+ghost use Rattle.std.specs.Prelude.{ℕ, ◌≤◌, Bool, List};
 ghost use Rattle.cache_core.specs.declared.config.CacheConfig.{CacheConfig};
 ghost use Rattle.cache_core.specs.Replay.{Call};
-ghost use Rattle.cache_core.specs.Laws.{CountsBalance, KeepsPlaces, AccessKeeps, FillEnds, ReferencesAlone, IsReplacing};
+ghost use Rattle.cache_core.specs.Laws.{CountsBalance, KeepsPlaces, AccessKeeps, FillEnds, ReferencesAlone, IsReplacing, FiveAccesses};
 
 /// Every access is a hit or a miss, only a miss replaces, and only a replacement writes back.
 pub fn counts_balance()
@@ -35,4 +34,9 @@ pub fn references_decide()
 /// blocks that came in last; as many as it has ways, in either case.
 pub fn newest_stay()
     ensures { (c : CacheConfig) (h : List Call) (k : ℕ) → 1 ≤ c.ways → IsReplacing c h k }
+{}
+
+/// What five accesses of three blocks count in one set of two ways, under either kind, with and without a write.
+pub fn five_accesses_count()
+    ensures { FiveAccesses }
 {}

@@ -1,4 +1,4 @@
-use Rattle.std.proofs.Common.{◌≤◌, ◌<◌, length, arith, sym, subst}
+use Rattle.std.proofs.Common.{arith, sym, subst}
 use Rattle.cache_core.specs.Stands.{StandsFor}
 use Rattle.cache_core.proofs.Replays.{settling_more, settled_sound, stands_settled}
 use Rattle.cache_core.proofs.caches.Cache.settle.Goals as goal

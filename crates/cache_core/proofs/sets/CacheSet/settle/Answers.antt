@@ -1,4 +1,4 @@
-use Rattle.std.proofs.Common.{◌≡◌, ◌<◌, ◌≤◌, ◌∙◌, length, map, ap, arith}
+use Rattle.std.proofs.Common.{◌≡◌, ◌∙◌, length, map, ap, arith}
 use Rattle.cache_core.specs.Replay.{ending_at}
 use Rattle.cache_core.proofs.Places.{settled_more, settled_all, settled_set}
 use Rattle.cache_core.proofs.Replays.{all_written}
