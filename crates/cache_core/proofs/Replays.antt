@@ -1,6 +1,6 @@
 -- A cache stands for one call more.
 use Rattle.std.proofs.Common.{◌≡◌, ◌≢◌, ℕ, zero, suc, ◌+◌, ◌-◌, ◌<◌, ◌≤◌, Bool, true, false, cond, List, [], ◌∷◌, ◌++◌, length, get_or, set, take, drop, map, replicate, Option, Some, None, refl, sym, ◌∙◌, ap, subst, arith, get_or-set_same, get_or-set_other, length-set, below_more}
-use Rattle.std.specs.Prelude.{◌==◌, if◌then◌else◌, not, IsTrue, IsSome, All}
+use Rattle.std.specs.Prelude.{◌==◌, if◌then◌else◌, not, IsTrue, IsSome, All, is_some, ◌↔◌}
 use Rattle.std.specs.Int.{is_power_of_two}
 use Rattle.std.specs.Int.Count.{ones}
 use Rattle.std.specs.Option.{option_map_or}
@@ -11,8 +11,9 @@ use Rattle.cache_core.specs.declared.config.CacheConfig.{CacheConfig}
 use Rattle.cache_core.specs.declared.answers.Touch.{Touch}
 use Rattle.cache_core.specs.declared.answers.Counts.{Counts}
 use Rattle.cache_core.specs.declared.sets.Line.{Line}
+use Rattle.cache_core.specs.Limits.{IsWithinLimits}
 use Rattle.cache_core.specs.Replay.{Call, Access, Fill, Settle, block_of, set_of, line_of, without, changed, marked, ending_at, touched, touched_at, lines_of, touch_of, line_at, fill_end_of, number_of, replaces, writes_back}
-use Rattle.cache_core.specs.Stands.{HeldSet, Held, StandsFor, IsSound, IsSoundSet, set_at}
+use Rattle.cache_core.specs.Stands.{HeldSet, Held, StandsFor, IsSound, IsSoundSet, set_at, Holds}
 use Rattle.cache_core.proofs.Lines.{line_of-head, line_of-changed, line_of-is}
 
 abbrev pub empty : HeldSet
@@ -71,6 +72,17 @@ unfolding touch_of
 touch_stands v addr write old touch sound e is_touch c h =
     own_shape v h (λ c'. touch ≡ touch_of c' h addr write)
     (λ st. is_touch ∙ ap (λ ls. (touched v.config ls (block_of v.config addr) write).touch) (met_lines v h old (block_of v.config addr) sound st e)) c
+
+pub held_stands : (v : Held) (c : CacheConfig) (h : List Call) (addr : ℕ) → IsWithinLimits c → StandsFor v c h → Holds v addr ↔ IsSome (line_at c h (block_of c addr))
+unfolding line_at
+held_stands v c h addr limits st = own_shape v h (λ c'. Holds v addr ↔ IsSome (line_at c' h (block_of c' addr))) same c st
+  where
+    same : StandsFor v v.config h → Holds v addr ↔ IsSome (line_at v.config h (block_of v.config addr))
+    same own =
+        let b = block_of v.config addr in
+        let some : 0 < v.config.sets = positive v.config.sets (subst (λ (c' : CacheConfig). IsTrue (is_power_of_two c'.sets)) (sym st.config) limits.sets) in
+        let e = ap (λ ls. is_some (line_of b ls)) (own.lines (set_of v.config b) (omega arith)) in
+        (λ held. sym e ∙ held, λ held. e ∙ held)
 
 pub stands_access : (v : Held) (addr : ℕ) (write : Bool) (old s : HeldSet) (touch : Touch) (n : Counts) → IsSound v
     → old ≡ get_or v.sets (set_of v.config (block_of v.config addr)) old

@@ -1,6 +1,8 @@
-ghost use Rattle.std.specs.Prelude.{ℕ, ◌≤◌, Bool, List};
+ghost use Rattle.std.specs.Prelude.{ℕ, ◌≤◌, ◌↔◌, Bool, List, IsSome};
 ghost use Rattle.cache_core.specs.declared.config.CacheConfig.{CacheConfig};
-ghost use Rattle.cache_core.specs.Replay.{Call};
+ghost use Rattle.cache_core.specs.Replay.{Call, block_of, line_at};
+ghost use Rattle.cache_core.specs.Limits.{IsWithinLimits};
+ghost use Rattle.cache_core.specs.Stands.{Held, StandsFor, Holds};
 ghost use Rattle.cache_core.specs.Laws.{CountsBalance, KeepsPlaces, AccessKeeps, FillEnds, ReferencesAlone, IsReplacing, FiveAccesses};
 
 /// Every access is a hit or a miss, only a miss replaces, and only a replacement writes back.
@@ -11,6 +13,11 @@ pub fn counts_balance()
 /// No set holds more blocks than it has ways, a block twice, or a block of another set.
 pub fn sets_keep_places()
     ensures { (c : CacheConfig) (h : List Call) (k : ℕ) → 1 ≤ c.ways → KeepsPlaces c h k }
+{}
+
+/// A cache holds the block of an address exactly where the calls that it stands for leave it held.
+pub fn calls_tell_what_is_held()
+    ensures { (v : Held) (c : CacheConfig) (h : List Call) (addr : ℕ) → IsWithinLimits c → StandsFor v c h → Holds v addr ↔ IsSome (line_at c h (block_of c addr)) }
 {}
 
 /// An access hits exactly where its block is held. A hit changes no contents but order and dirty mark, and a miss

@@ -22,6 +22,6 @@ pub use answers::{Counts, Touch, Victim};
 pub use caches::Cache;
 pub use config::CacheConfig;
 pub use laws::{
-    accesses_keep_contents, counts_balance, fill_ends_stay, five_accesses_count, newest_stay,
-    references_decide, sets_keep_places,
+    accesses_keep_contents, calls_tell_what_is_held, counts_balance, fill_ends_stay,
+    five_accesses_count, newest_stay, references_decide, sets_keep_places,
 };

@@ -1,4 +1,4 @@
-ghost use Rattle.std.specs.Prelude.{ℕ, ◌≡◌, ◌<◌, length};
+ghost use Rattle.std.specs.Prelude.{◌<◌, length};
 ghost use Rattle.cache_core.specs.Limits.{IsWithinLimits};
 
 use crate::{Cache, CacheConfig, Counts, Touch, Victim};
