@@ -1,0 +1,116 @@
+ghost use Rattle.std.specs.Prelude.{◌≡◌, ℕ, ◌+◌, ◌^◌, ◌<◌, List, [], ◌∷◌, replicate, IfOk};
+ghost use Rattle.cache_core.specs.declared.config.CacheConfig.{CacheConfig};
+ghost use Rattle.cache_core.specs.Limits.{IsWithinLimits};
+ghost use Rattle.cache_core.specs.Replay.{Call, Access, Fill, Settle, block_of, touch_of, fill_end_of, counts_of};
+ghost use Rattle.cache_core.specs.Stands.{StandsFor, Holds, accesses_of};
+
+use crate::answers::{Counts, Touch};
+use crate::config::CacheConfig;
+use crate::sets::CacheSet;
+use ss_base::OutOfMemory;
+use std::alloc::Global;
+use std::marker::Model;
+
+/// The sets of a cache that holds nothing, with memory for all that it will hold.
+fn empty_sets(alloc: Global, c: &CacheConfig) -> Result<Vec<CacheSet>, OutOfMemory>
+    ensures { IfOk result (λ sets. sets.items ≡ replicate c.now.sets (record { lines = []; room = c.now.ways })) }
+{
+    let mut sets = Vec::with_capacity(alloc, c.sets as usize)?;
+    for _k in 0..c.sets {
+        sets.push(CacheSet::new(alloc, c.ways)?)?;
+    }
+    Ok(sets)
+}
+
+/// A cache: which blocks it holds, which of them are dirty, when each is filled, and how often what happened.
+///
+/// All answers are those of the calls so far, replayed from an empty cache.
+#[derive(Drop)]
+pub struct Cache {
+    config: CacheConfig,
+    sets: Vec<CacheSet>,
+    counts: Counts,
+}
+
+impl Model for Cache {
+    ghost use Rattle.cache_core.specs.Stands.{Held, IsSound};
+
+    ghost Value = { Held };
+
+    ghost view = { λ c. record { config = c.config; sets = c.sets.items; counts = c.counts } };
+
+    ghost invariant = { λ c. IsSound (record { config = c.config; sets = c.sets.items; counts = c.counts }) };
+}
+
+impl Cache {
+    /// A cache of this shape that holds nothing. It takes all the memory that it will ever need.
+    ///
+    /// # Errors
+    /// `OutOfMemory` where there is too little memory.
+    pub fn new(alloc: Global, c: &CacheConfig) -> Result<Cache, OutOfMemory>
+        requires { IsWithinLimits c.now }
+        ensures stands { IfOk result (λ cache. StandsFor cache c.now []) }
+        ensures accesses { IfOk result (λ cache. accesses_of cache ≡ 0) }
+    {
+        Ok(Cache {
+            config: *c,
+            sets: empty_sets(alloc, c)?,
+            counts: Counts::new(),
+        })
+    }
+
+    /// Reads or writes the block of an address. A missing block comes in, with fill end 0, and where its set was full
+    /// another one leaves.
+    pub fn access(&mut self, addr: u32, write: bool) -> Touch
+        requires { accesses_of self.old + 1 < 2 ^ 62 }
+        ensures touch { (c : CacheConfig) (h : List Call) → StandsFor self.old c h → result ≡ touch_of c h addr write }
+        ensures stands { (c : CacheConfig) (h : List Call) → StandsFor self.old c h → StandsFor self.new c (Access addr write ∷ h) }
+        ensures held { Holds self.new addr }
+        ensures accesses { accesses_of self.new ≡ accesses_of self.old + 1 }
+    {
+        let block = addr / self.config.block;
+        let set = (block % self.config.sets) as usize;
+        let touch = self.sets[set].touch(block, write, &self.config);
+        self.counts.count(&touch);
+        touch
+    }
+
+    /// How often what happened since the cache was made.
+    pub fn counts(&self) -> Counts
+        ensures counts { (c : CacheConfig) (h : List Call) → StandsFor self.now c h → result ≡ counts_of c h }
+        ensures accesses { result.accesses ≡ accesses_of self.now }
+    {
+        self.counts
+    }
+
+    /// Sets the fill end of an address's block, the cycle in which its bytes are there. It leaves every other block,
+    /// what is held and dirty, and the counts.
+    pub fn fill(&mut self, addr: u32, end: u64)
+        requires { Holds self.old addr }
+        ensures stands { (c : CacheConfig) (h : List Call) → StandsFor self.old c h → StandsFor self.new c (Fill addr end ∷ h) }
+        ensures accesses { accesses_of self.new ≡ accesses_of self.old }
+    {
+        let block = addr / self.config.block;
+        let set = (block % self.config.sets) as usize;
+        self.sets[set].fill(block, end);
+    }
+
+    /// The fill end of an address's block, and 0 where the block is not held or none was set since it came in.
+    pub fn fill_end(&self, addr: u32) -> u64
+        ensures { (c : CacheConfig) (h : List Call) → StandsFor self.now c h → result ≡ fill_end_of c h (block_of c addr) }
+    {
+        let block = addr / self.config.block;
+        let set = (block % self.config.sets) as usize;
+        self.sets[set].fill_end(block)
+    }
+
+    /// Makes all fill ends 0. It leaves what is held and dirty, and the counts.
+    pub fn settle(&mut self)
+        ensures stands { (c : CacheConfig) (h : List Call) → StandsFor self.old c h → StandsFor self.new c (Settle ∷ h) }
+        ensures accesses { accesses_of self.new ≡ accesses_of self.old }
+    {
+        for set in self.sets.iter_mut() {
+            set.settle();
+        }
+    }
+}
