@@ -1,0 +1,4 @@
+pub mod Histories
+pub mod Learning
+pub mod Latest
+pub mod Rings
