@@ -1,10 +1,10 @@
 -- The newest updates of different pcs, and what a set of the buffer keeps of them.
 use Rattle.std.proofs.Common.{◌≡◌, ◌≢◌, ℕ, zero, suc, ◌+◌, ◌-◌, ◌<◌, ◌≤◌, Bool, true, false, cond, not, List, [], ◌∷◌, ◌++◌, length, get_or, set, take, map, replicate, refl, sym, ◌∙◌, ap, subst, arith, eqb, length-set, get_or-set_same, get_or-set_other}
-use Rattle.std.specs.Prelude.{filter}
+use Rattle.std.specs.Prelude.{filter, find, option_map, Some, None, All, Contains}
 use Rattle.std.proofs.lemmas.List.{take-take, length-map, length-replicate, get_or-replicate, get_or-map, map-set, map_push, replicate_more}
 use Rattle.std.proofs.lemmas.Bool.{eqb-true, eqb-false, eq-eqb, ne_eqb}
 use Rattle.bpred_tables.specs.Updates.{place_in}
-use Rattle.bpred_tables.specs.Buffer.{latest, of_set, entries, Buffer, BufferStands}
+use Rattle.bpred_tables.specs.Buffer.{latest, of_set, entries, target_of, Buffer, BufferStands}
 use Rattle.bpred_tables.specs.declared.target_buffer.Entry.{Entry}
 
 abbrev other : ℕ → Entry → Bool
@@ -138,6 +138,42 @@ pub entries_apart : (sets ways k : ℕ) (updates : List Entry) (i j : ℕ) (d : 
 entries_apart sets ways k updates =
     apart_at (entries sets ways k updates) (apart_take ways (latest (of_set sets k updates)) (apart_latest (of_set sets k updates)))
 
+-- nothing is found exactly where no entry is of pc
+pub found_none : (pc : ℕ) (es : List Entry) → option_map (λ e. e.target) (find (λ e. eqb e.pc pc) es) ≡ None → All (λ e. e.pc ≢ pc) es
+found_none pc [] h k d within same' = absurd (omega arith)
+found_none pc (x ∷ es) h k d within same' = by_case (eqb x.pc pc) refl h (found_none pc es) k within same'
+  where
+    by_case : (b : Bool) → eqb x.pc pc ≡ b → option_map (λ e. e.target) (cond b (Some x) (find (λ e. eqb e.pc pc) es)) ≡ None
+        → (option_map (λ e. e.target) (find (λ e. eqb e.pc pc) es) ≡ None → All (λ e. e.pc ≢ pc) es)
+        → (j : ℕ) → j < length (x ∷ es) → (get_or (x ∷ es) j d).pc ≡ pc → ⊥
+    by_case true is none rest j below same'' = cc
+    by_case false is none rest zero below same'' = eqb-false _ _ is same''
+    by_case false is none rest (suc j) below same'' = rest none j d (omega arith) same''
+
+pub none_found : (pc : ℕ) (es : List Entry) → All (λ e. e.pc ≢ pc) es → option_map (λ e. e.target) (find (λ e. eqb e.pc pc) es) ≡ None
+none_found pc [] h = refl
+none_found pc (x ∷ es) h =
+    let miss : eqb x.pc pc ≡ false = ne_eqb _ _ (h 0 x (omega arith)) in
+    rw miss (none_found pc es (λ k d within. h (suc k) d (omega arith)))
+
+-- the entry at a place is the one that is found for its pc
+found_at : (es : List Entry) (k : ℕ) (d : Entry) → Apart es → k < length es
+    → find (λ e. eqb e.pc (get_or es k d).pc) es ≡ Some (get_or es k d)
+found_at [] k d h within = absurd (omega arith)
+found_at (x ∷ es) zero d h within = rw (eq-eqb x.pc x.pc refl) refl
+found_at (x ∷ es) (suc k) d h within =
+    let miss : eqb x.pc (get_or es k d).pc ≡ false = ne_eqb _ _ (absent_at x.pc es k d h.0 (omega arith)) in
+    rw miss (found_at es k d h.1 (omega arith))
+
+pub found_entry : (sets ways : ℕ) (updates : List Entry) (e : Entry) → Contains (entries sets ways (place_in sets e.pc) updates) e
+    → target_of sets ways updates e.pc ≡ Some e.target
+found_entry sets ways updates e (k, within, is) =
+    let es = entries sets ways (place_in sets e.pc) updates in
+    let apart : Apart es = apart_take ways (latest (of_set sets (place_in sets e.pc) updates)) (apart_latest (of_set sets (place_in sets e.pc) updates)) in
+    let found = found_at es k e apart within in
+    let here : find (λ x. eqb x.pc e.pc) es ≡ Some e = subst (λ y. find (λ x. eqb x.pc y.pc) es ≡ Some y) is found in
+    ap (option_map (λ x. x.target)) here
+
 take-nil : (n : ℕ) → take {A = Entry} n [] ≡ []
 take-nil zero = refl
 take-nil (suc n) = refl
@@ -172,5 +208,5 @@ module _ {X : Type 0} (f : X → List Entry) where
       let within' : at < length (map f xs) = rw long within in
       let step = buffer_step (record { sets = map f xs; ways = ways }) older u at here' within' stands in
       let left : map f (set xs at x) ≡ set (map f xs) at (take ways (u ∷ filter (other u.pc) (get_or (map f xs) at []))) =
-          map-set f xs at x ∙ ap (λ l. set (map f xs) at l) (now ∙ ap (λ l. take ways (u ∷ filter (other u.pc) l)) was) in
+      map-set f xs at x ∙ ap (λ l. set (map f xs) at l) (now ∙ ap (λ l. take ways (u ∷ filter (other u.pc) l)) was) in
       subst (λ l. BufferStands (record { sets = l; ways = ways }) (u ∷ older)) (sym left) step

@@ -1,6 +1,6 @@
 -- Tables that stand for a list of updates stand for one more update after it was counted.
 use Rattle.std.proofs.Common.{◌≡◌, ◌≢◌, ℕ, ◌+◌, ◌*◌, ◌%◌, ◌^◌, ◌<◌, Bool, true, false, cond, not, ◌&&◌, List, [], ◌∷◌, length, get_or, set, refl, sym, ◌∙◌, ap, subst, arith, eqb, length-set, get_or-set_same, get_or-set_other}
-use Rattle.std.proofs.lemmas.Bool.{eqb-true, eqb-false, eq-eqb, ne_eqb}
+use Rattle.std.proofs.lemmas.Bool.{eqb-true, eqb-false, and_right}
 use Rattle.bpred_tables.specs.Updates.{Update, Levels, Pair, Scheme, Bimodal, Adaptive, counter, counted, digit, number_of, outcomes_at, fixed_place, pattern_place, second_place, history, place_in, bimodal, two_level, same, contests}
 use Rattle.bpred_tables.specs.Tables.{Counts, BimodalStands, TwoTables, levels_of, TwoLevelStands, ThreeTables, pair_of, CombiningStands}
 use Rattle.bpred_tables.proofs.Histories.{history_here, history_elsewhere}
@@ -41,7 +41,7 @@ stand_step : (l : Levels) (histories counters : List ℕ) (older : List Update) 
 stand_step l histories counters older u i j h at within at' within' next stands =
     let was : get_or histories i 0 ≡ history l i older = stands.shifts i within in
     let second : j ≡ pattern_place l older u.pc =
-        at' ∙ ap (λ n. second_place l n u.pc) (was ∙ ap (λ k. history l k older) at) in
+    at' ∙ ap (λ n. second_place l n u.pc) (was ∙ ap (λ k. history l k older) at) in
     record {
       shifts = λ k k_in. by_case k (rw length-set at k_in) (eqb i k) refl;
       counts = counts_step (pattern_place l) counters older u j second within' stands.counts;
@@ -52,7 +52,7 @@ stand_step l histories counters older u i j h at within at' within' next stands 
         let here : k ≡ i = sym (eqb-true _ _ e) in
         let place : k ≡ place_in l.first u.pc = here ∙ at in
         let was : get_or histories i 0 ≡ history l (place_in l.first u.pc) older =
-            stands.shifts i within ∙ ap (λ m. history l m older) at in
+        stands.shifts i within ∙ ap (λ m. history l m older) at in
         ap (λ m. get_or (set histories i h) m 0) here ∙ get_or-set_same histories i h 0 within ∙ next
         ∙ ap (λ n. (2 * n + digit u.taken) % 2 ^ l.width) was ∙ sym (history_here l u older)
         ∙ ap (λ m. history l m (u ∷ older)) (sym place)
@@ -75,12 +75,12 @@ pub two_level_step : (t : TwoTables) (older : List Update) (u : Update) (i j h c
 two_level_step t older u i j h c at within at' within' next is stands =
     let second : j ≡ second_place (levels_of t) (get_or t.histories i 0) u.pc = rw at at' in
     let step : Stand (levels_of t) (set t.histories i h) (set t.counters j (counted u.taken (get_or t.counters j 0))) (u ∷ older) =
-        stand_step (levels_of t) t.histories t.counters older u i j h at within second within' next
-        (record { shifts = stands.shifts; counts = stands.counts }) in
+    stand_step (levels_of t) t.histories t.counters older u i j h at within second within' next
+    (record { shifts = stands.shifts; counts = stands.counts }) in
     let step' : Stand (levels_of t) (set t.histories i h) (set t.counters j c) (u ∷ older) =
-        subst (λ n. Stand (levels_of t) (set t.histories i h) (set t.counters j n) (u ∷ older)) (sym is) step in
+    subst (λ n. Stand (levels_of t) (set t.histories i h) (set t.counters j n) (u ∷ older)) (sym is) step in
     let moved : Stand (levels_of (record { histories = set t.histories i h; counters = set t.counters j c; width = t.width; xored = t.xored })) (set t.histories i h) (set t.counters j c) (u ∷ older) =
-        subst (λ l. Stand l (set t.histories i h) (set t.counters j c) (u ∷ older)) (sym (levels_stay t i h j c)) step' in
+    subst (λ l. Stand l (set t.histories i h) (set t.counters j c) (u ∷ older)) (sym (levels_stay t i h j c)) step' in
     record { shifts = moved.shifts; counts = moved.counts }
 
 -- a chooser after the update, by whether its place is the update's and whether the answers agreed
@@ -137,3 +137,16 @@ combining_step old b t older u at first second choosers size levels here within 
     chooses : (k : ℕ) → k < length choosers → get_or choosers k 0 ≡ counter (contests (pair_of (record { bimodal = b; two_level = t; choosers = choosers })) k (u ∷ older))
     chooses k k_in =
         subst (λ p. get_or choosers k 0 ≡ counter (contests p k (u ∷ older))) (sym pair) (chooses_by k (rw long at k_in))
+
+same_self : (b : Bool) → same b b ≡ true
+same_self true = refl
+same_self false = refl
+
+pub agreed : (p : Pair) (k : ℕ) (u : Update) (older : List Update)
+    → bimodal p.bimodal_size older u.pc ≡ two_level p.levels older u.pc → contests p k (u ∷ older) ≡ contests p k older
+agreed p k u older e =
+    let first = bimodal p.bimodal_size older u.pc in
+    let second = two_level p.levels older u.pc in
+    let alike : same first second ≡ true = ap (λ b. same b second) e ∙ same_self second in
+    let off : (eqb (place_in p.choosers u.pc) k && not (same first second)) ≡ false = and_right _ _ (ap not alike) in
+    rw off refl

@@ -2,3 +2,4 @@ pub mod Histories
 pub mod Learning
 pub mod Latest
 pub mod Rings
+mod Worked

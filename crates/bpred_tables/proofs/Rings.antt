@@ -35,9 +35,9 @@ back_differs n t i below some less e =
     elim (cases_lt t i) [
       | inl lt ↦ let here : (t + n - i) % n ≡ t + n - i = small_mod n (t + n - i) (omega arith) in omega arith
       | inr le ↦
-        let split : t + n - i ≡ (t - i) + n = omega arith in
-        let here : (t + n - i) % n ≡ t - i = ap (λ m. m % n) split ∙ add-mod_right (t - i) n ∙ small_mod n (t - i) (omega arith) in
-        omega arith
+          let split : t + n - i ≡ (t - i) + n = omega arith in
+          let here : (t + n - i) % n ≡ t - i = ap (λ m. m % n) split ∙ add-mod_right (t - i) n ∙ small_mod n (t - i) (omega arith) in
+          omega arith
     ]
 
 -- i + 1 places back from the place after t is i places back from t
@@ -86,7 +86,7 @@ popped_round n values calls pos le =
     let below : top < n = top_pushed n values calls pos (omega arith) in
     let whole : top + n - n ≡ top + 0 = omega arith in
     let again : (top + n - n) % n ≡ (top + n - 0) % n =
-        ap (λ m. m % n) (let e : top + n - n ≡ top = omega arith in e)
-        ∙ sym (add-mod_right top n) ∙ ap (λ m. m % n) (let e : top + n ≡ top + n - 0 = omega arith in e) in
+    ap (λ m. m % n) (let e : top + n - n ≡ top = omega arith in e)
+    ∙ sym (add-mod_right top n) ∙ ap (λ m. m % n) (let e : top + n ≡ top + n - 0 = omega arith in e) in
     ap (λ k. cell_after n k (pops n (pushes values calls))) (top_pops n n (pushes values calls) below (omega arith) ∙ again)
     ∙ cell_pops n _ n (pushes values calls) ∙ pushed_at n 0 values calls pos (omega arith)

@@ -14,14 +14,17 @@ mod directions;
 mod laws;
 mod return_stack;
 mod target_buffer;
+#[cfg(test)]
+mod tests;
 mod two_level;
 
 pub use bimodal::Bimod;
 pub use combining::Comb;
 pub use directions::{Direction, Fixed};
 pub use laws::{
-    cells_stay, counters_saturate, histories_keep_their_width, last_targets_are_found,
-    newest_pushes_survive, pops_give_the_push, sets_keep_their_ways, updates_shift_histories,
+    agreement_leaves_choosers, cells_stay, counters_saturate, histories_keep_their_width,
+    last_targets_are_found, newest_pushes_survive, pops_give_the_push, sets_keep_their_ways,
+    targets_are_those_of_entries, updates_shift_histories,
 };
 pub use return_stack::Ras;
 pub use target_buffer::Btb;

@@ -53,7 +53,13 @@ impl Model for TwoLevel {
 
 impl TwoLevel {
     /// `l1` histories of `width` outcomes, each 0, and `l2` counters, each at 1, of no updates.
-    pub fn new(alloc: Global, l1: u32, l2: u32, width: u32, xor: bool) -> Result<TwoLevel, OutOfMemory>
+    pub fn new(
+        alloc: Global,
+        l1: u32,
+        l2: u32,
+        width: u32,
+        xor: bool,
+    ) -> Result<TwoLevel, OutOfMemory>
         requires first { 1 ≤ l1 }
         requires second { 1 ≤ l2 }
         requires width { width ≤ 16 }
