@@ -1,10 +1,10 @@
 -- Counters keep their range, and histories are the number of the last outcomes.
-use Rattle.std.proofs.Common.{◌≡◌, ◌≢◌, ℕ, zero, suc, ◌+◌, ◌-◌, ◌*◌, ◌/◌, ◌%◌, ◌^◌, ◌<◌, ◌≤◌, min, Bool, true, false, List, [], ◌∷◌, take, length, get_or, replicate, inl, inr, refl, sym, ◌∙◌, ap, arith, eqb}
-use Rattle.std.proofs.Math.Nat.{add-mod-mod, mod-add-mod, mul-add-mod_self_left, mod-add-div, pow-suc, mod-one, zero-mod, mul_comm}
+use Rattle.std.proofs.Common.{◌≡◌, ◌≢◌, ℕ, zero, suc, ◌+◌, ◌*◌, ◌/◌, ◌%◌, ◌^◌, ◌<◌, ◌≤◌, Bool, true, false, List, [], ◌∷◌, take, length, get_or, replicate, inl, inr, refl, sym, ◌∙◌, ap, arith, eqb}
+use Rattle.std.proofs.Math.Nat.{mul-add-mod_self_left, mod-add-div, pow-suc, mod-one, zero-mod, mul_comm}
 use Rattle.std.proofs.lemmas.Bool.{eq-eqb, ne_eqb, cases_lt}
 use Rattle.std.proofs.lemmas.Nat.{mod_below, pow_pos, mod-mul-add}
 use Rattle.std.proofs.lemmas.List.{get_or-replicate, get_or_past, length-replicate}
-use Rattle.bpred_tables.specs.Updates.{Update, Levels, counter, counted, digit, number_of, outcomes_at, fixed_place, history, place_in}
+use Rattle.bpred_tables.specs.Updates.{Update, Levels, counter, digit, number_of, outcomes_at, fixed_place, history, place_in}
 
 pub counter_le : (outcomes : List Bool) → counter outcomes ≤ 3
 counter_le [] = omega arith

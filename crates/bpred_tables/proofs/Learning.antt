@@ -1,7 +1,7 @@
 -- Tables that stand for a list of updates stand for one more update after it was counted.
-use Rattle.std.proofs.Common.{◌≡◌, ◌≢◌, ℕ, ◌+◌, ◌*◌, ◌%◌, ◌^◌, ◌<◌, Bool, true, false, cond, not, ◌&&◌, List, [], ◌∷◌, length, get_or, set, refl, sym, ◌∙◌, ap, subst, arith, eqb, length-set, get_or-set_same, get_or-set_other}
+use Rattle.std.proofs.Common.{◌≡◌, ◌≢◌, ℕ, ◌+◌, ◌*◌, ◌%◌, ◌^◌, ◌<◌, Bool, true, false, cond, not, ◌&&◌, List, ◌∷◌, length, get_or, set, refl, sym, ◌∙◌, ap, subst, eqb, length-set, get_or-set_same, get_or-set_other}
 use Rattle.std.proofs.lemmas.Bool.{eqb-true, eqb-false, and_right}
-use Rattle.bpred_tables.specs.Updates.{Update, Levels, Pair, Scheme, Bimodal, Adaptive, counter, counted, digit, number_of, outcomes_at, fixed_place, pattern_place, second_place, history, place_in, bimodal, two_level, same, contests}
+use Rattle.bpred_tables.specs.Updates.{Update, Levels, Pair, Bimodal, Adaptive, counter, counted, digit, outcomes_at, pattern_place, second_place, history, place_in, bimodal, two_level, same, contests}
 use Rattle.bpred_tables.specs.Tables.{Counts, BimodalStands, TwoTables, levels_of, TwoLevelStands, ThreeTables, pair_of, CombiningStands}
 use Rattle.bpred_tables.proofs.Histories.{history_here, history_elsewhere}
 

@@ -1,9 +1,9 @@
 -- The return stack's ring: where pushes land and pops look.
-use Rattle.std.proofs.Common.{◌≡◌, ◌≢◌, ℕ, zero, suc, ◌+◌, ◌-◌, ◌%◌, ◌<◌, ◌≤◌, Bool, true, false, cond, List, [], ◌∷◌, length, get_or, refl, sym, ◌∙◌, ap, subst, arith, eqb, inl, inr}
+use Rattle.std.proofs.Common.{◌≡◌, ℕ, zero, suc, ◌+◌, ◌-◌, ◌%◌, ◌<◌, ◌≤◌, true, false, List, [], ◌∷◌, length, get_or, refl, sym, ◌∙◌, ap, arith, eqb, inl, inr}
 use Rattle.std.proofs.Math.Nat.{mod-add-mod, add-mod_right, mod-eq_of_lt}
 use Rattle.std.proofs.lemmas.Bool.{eq-eqb, ne_eqb, cases_lt}
 use Rattle.std.proofs.lemmas.Nat.{mod_below}
-use Rattle.bpred_tables.specs.Stack.{Call, Push, Pop, SetTop, top_after, cell_after, popped, pushes, pops}
+use Rattle.bpred_tables.specs.Stack.{Call, top_after, cell_after, popped, pushes, pops}
 
 -- one step back round the ring
 back_once : (n x : ℕ) → 0 < n → 0 < x → (x % n + n - 1) % n ≡ (x - 1) % n

@@ -1,7 +1,7 @@
 -- Values worked out by hand, computed from the definitions.
-use Rattle.std.proofs.Common.{◌≡◌, ℕ, Bool, true, false, List, [], ◌∷◌, refl}
+use Rattle.std.proofs.Common.{◌≡◌, Bool, true, false, List, [], ◌∷◌, refl}
 use Rattle.std.specs.Prelude.{map}
-use Rattle.bpred_tables.specs.Updates.{Update, Levels, counter, predicted, Bimodal, Adaptive, history}
+use Rattle.bpred_tables.specs.Updates.{Update, Levels, counter, predicted, Bimodal, history}
 use Rattle.bpred_tables.specs.Stack.{Push, Pop, SetTop, pushes, pops, popped, top_after}
 
 -- the branch at 0 with these outcomes, the newest first

@@ -14,7 +14,8 @@ use std::marker::Model;
 /// Counts at a chooser which of two answers was right, where they differ.
 fn judge(choosers: &mut Counters, at: usize, bimodal: bool, two_level: bool, taken: bool)
     requires { at < length choosers.old }
-    ensures { choosers.new ≡ (if same bimodal two_level then choosers.old else slice_set choosers.old at (counted (same two_level taken) (slice_index choosers.old at))) }
+    ensures { choosers.new ≡ (if same bimodal two_level then choosers.old
+        else slice_set choosers.old at (counted (same two_level taken) (slice_index choosers.old at))) }
 {
     if bimodal != two_level {
         choosers.count(at, two_level == taken);
@@ -35,7 +36,11 @@ impl Model for Comb {
 
     ghost Value = { ThreeTables };
 
-    ghost view = { λ c. record { bimodal = c.bimodal; two_level = c.two_level; choosers = c.choosers } };
+    ghost view = { λ c. record {
+      bimodal = c.bimodal;
+      two_level = c.two_level;
+      choosers = c.choosers;
+    } };
 
     ghost invariant = { λ c. 0 < length c.choosers };
 }
@@ -47,7 +52,8 @@ impl Comb {
         requires new_bimodal { BimodalStands b [] }
         requires new_two_level { TwoLevelStands t [] }
         requires size { 1 ≤ size }
-        ensures sizes { IfOk result (λ c. pair_of c ≡ record { bimodal_size = length b; levels = levels_of t; choosers = size }) }
+        ensures sizes { IfOk result (λ c.
+            pair_of c ≡ record { bimodal_size = length b; levels = levels_of t; choosers = size }) }
         ensures start { IfOk result (λ c. CombiningStands c []) }
     {
         Ok(Comb {

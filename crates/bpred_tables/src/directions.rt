@@ -12,7 +12,8 @@ pub trait Direction {
 
     /// Whether the conditional branch at `pc` is predicted to be taken. Nothing changes.
     fn predict(&self, pc: u32) -> bool
-        ensures { (updates : List Update) → stands_for self.now updates → result ≡ predicted (scheme self.now) updates pc };
+        ensures { (updates : List Update) → stands_for self.now updates
+            → result ≡ predicted (scheme self.now) updates pc };
 
     /// The conditional branch at `pc` was done: from now on this update counts too.
     fn update(&mut self, pc: u32, taken: bool)

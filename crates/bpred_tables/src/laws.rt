@@ -17,8 +17,11 @@ pub fn histories_keep_their_width()
 
 /// An update shifts its outcome into the history at its place, and no other history changes.
 pub fn updates_shift_histories()
-    ensures here { (l : Levels) (u : Update) (older : List Update) → let k = place_in l.first u.pc in history l k (u ∷ older) ≡ (2 * history l k older + digit u.taken) % 2 ^ l.width }
-    ensures elsewhere { (l : Levels) (u : Update) (older : List Update) (k : ℕ) → k ≢ place_in l.first u.pc → history l k (u ∷ older) ≡ history l k older }
+    ensures here { (l : Levels) (u : Update) (older : List Update)
+        → let k = place_in l.first u.pc in
+        history l k (u ∷ older) ≡ (2 * history l k older + digit u.taken) % 2 ^ l.width }
+    ensures elsewhere { (l : Levels) (u : Update) (older : List Update) (k : ℕ)
+        → k ≢ place_in l.first u.pc → history l k (u ∷ older) ≡ history l k older }
 {}
 
 /// Where both predictors of a combining one answer alike, an update changes no chooser.
@@ -31,7 +34,8 @@ pub fn agreement_leaves_choosers()
 /// A target is missing exactly where the pc has no entry in its set, and an entry's target is found.
 pub fn targets_are_those_of_entries()
     ensures none { (sets ways pc : ℕ) (updates : List Entry)
-        → (target_of sets ways updates pc ≡ None) ↔ All (λ e. e.pc ≢ pc) (entries sets ways (place_in sets pc) updates) }
+        → (target_of sets ways updates pc ≡ None)
+        ↔ All (λ e. e.pc ≢ pc) (entries sets ways (place_in sets pc) updates) }
     ensures some { (sets ways : ℕ) (updates : List Entry) (e : Entry)
         → Contains (entries sets ways (place_in sets e.pc) updates) e
         → target_of sets ways updates e.pc ≡ Some e.target }
@@ -39,13 +43,16 @@ pub fn targets_are_those_of_entries()
 
 /// The target of the newest update of a pc is found.
 pub fn last_targets_are_found()
-    ensures { (sets ways : ℕ) (u : Entry) (older : List Entry) → 1 ≤ ways → target_of sets ways (u ∷ older) u.pc ≡ Some u.target }
+    ensures { (sets ways : ℕ) (u : Entry) (older : List Entry)
+        → 1 ≤ ways → target_of sets ways (u ∷ older) u.pc ≡ Some u.target }
 {}
 
 /// No set has more entries than it has ways, and no two of its entries are of one pc.
 pub fn sets_keep_their_ways()
-    ensures ways { (sets ways k : ℕ) (updates : List Entry) → length (entries sets ways k updates) ≤ ways }
-    ensures different { (sets ways k : ℕ) (updates : List Entry) → AllPairs (λ a b. a.pc ≢ b.pc) (entries sets ways k updates) }
+    ensures ways { (sets ways k : ℕ) (updates : List Entry)
+        → length (entries sets ways k updates) ≤ ways }
+    ensures different { (sets ways k : ℕ) (updates : List Entry)
+        → AllPairs (λ a b. a.pc ≢ b.pc) (entries sets ways k updates) }
 {}
 
 /// Right after a push, a pop gives what was pushed.
@@ -55,13 +62,19 @@ pub fn pops_give_the_push()
 
 /// A pop and a set top leave every cell.
 pub fn cells_stay()
-    ensures pop { (n k : ℕ) (calls : List Call) → cell_after n k (Pop ∷ calls) ≡ cell_after n k calls }
-    ensures set_top { (n k top : ℕ) (calls : List Call) → cell_after n k (SetTop top ∷ calls) ≡ cell_after n k calls }
+    ensures pop { (n k : ℕ) (calls : List Call)
+        → cell_after n k (Pop ∷ calls) ≡ cell_after n k calls }
+    ensures set_top { (n k top : ℕ) (calls : List Call)
+        → cell_after n k (SetTop top ∷ calls) ≡ cell_after n k calls }
 {}
 
 /// After any pushes, up to n pops give the last ones, the newest first, since a push beyond n
 /// overwrites the oldest; one more pop gives the newest again.
 pub fn newest_pushes_survive()
-    ensures last { (n i : ℕ) (values : List ℕ) (calls : List Call) → i < n → i < length values → popped n (pops i (pushes values calls)) ≡ slice_index values i }
-    ensures round { (n : ℕ) (values : List ℕ) (calls : List Call) → 0 < n → n ≤ length values → popped n (pops n (pushes values calls)) ≡ slice_index values 0 }
+    ensures last { (n i : ℕ) (values : List ℕ) (calls : List Call)
+        → i < n → i < length values
+        → popped n (pops i (pushes values calls)) ≡ slice_index values i }
+    ensures round { (n : ℕ) (values : List ℕ) (calls : List Call)
+        → 0 < n → n ≤ length values
+        → popped n (pops n (pushes values calls)) ≡ slice_index values 0 }
 {}

@@ -41,7 +41,8 @@ impl Ras {
     /// The next cell becomes the top and holds `v`; the other cells stay.
     pub fn push(&mut self, v: u32)
         ensures size { length self.new.cells ≡ length self.old.cells }
-        ensures pushed { (calls : List Call) → StackStands self.old calls → StackStands self.new (Push v ∷ calls) }
+        ensures pushed { (calls : List Call) → StackStands self.old calls
+            → StackStands self.new (Push v ∷ calls) }
     {
         self.top = (self.top + 1) % self.cells.len() as u32;
         self.cells[self.top as usize] = v;
@@ -49,9 +50,11 @@ impl Ras {
 
     /// What the top holds. The cell before it becomes the top; all cells stay.
     pub fn pop(&mut self) -> u32
-        ensures answer { (calls : List Call) → StackStands self.old calls → result ≡ popped (length self.old.cells) calls }
+        ensures answer { (calls : List Call) → StackStands self.old calls
+            → result ≡ popped (length self.old.cells) calls }
         ensures size { length self.new.cells ≡ length self.old.cells }
-        ensures popped { (calls : List Call) → StackStands self.old calls → StackStands self.new (Pop ∷ calls) }
+        ensures popped { (calls : List Call) → StackStands self.old calls
+            → StackStands self.new (Pop ∷ calls) }
     {
         let v = self.cells[self.top as usize];
         let size = self.cells.len() as u32;
@@ -61,7 +64,8 @@ impl Ras {
 
     /// The number of the top cell, below the size, for a later `set_top`.
     pub fn top(&self) -> u32
-        ensures answer { (calls : List Call) → StackStands self.now calls → result ≡ top_after (length self.now.cells) calls }
+        ensures answer { (calls : List Call) → StackStands self.now calls
+            → result ≡ top_after (length self.now.cells) calls }
         ensures within { result < length self.now.cells }
     {
         self.top
@@ -71,7 +75,8 @@ impl Ras {
     pub fn set_top(&mut self, top: u32)
         requires { top < length self.old.cells }
         ensures size { length self.new.cells ≡ length self.old.cells }
-        ensures set { (calls : List Call) → StackStands self.old calls → StackStands self.new (SetTop top ∷ calls) }
+        ensures set { (calls : List Call) → StackStands self.old calls
+            → StackStands self.new (SetTop top ∷ calls) }
     {
         self.top = top;
     }

@@ -30,7 +30,8 @@ fn take_out(set: &mut Set, pc: u32)
 fn enter(set: &mut Set, ways: usize, entry: Entry)
     requires least { 1 ≤ ways }
     requires most { ways ≤ 16 }
-    ensures { set.new.items ≡ take ways (entry ∷ filter (λ e. not (e.pc == entry.pc)) set.old.items) }
+    ensures { set.new.items
+        ≡ take ways (entry ∷ filter (λ e. not (e.pc == entry.pc)) set.old.items) }
 {
     take_out(set, entry.pc);
     set.truncate(ways - 1);
@@ -86,7 +87,8 @@ impl Btb {
 
     /// The last target of the transfer at `pc`. `None` where no entry of it is held. Nothing changes.
     pub fn target(&self, pc: u32) -> Option<u32>
-        ensures { (updates : List Entry) → BufferStands self.now updates → result ≡ target_of (length self.now.sets) self.now.ways updates pc }
+        ensures { (updates : List Entry) → BufferStands self.now updates
+            → result ≡ target_of (length self.now.sets) self.now.ways updates pc }
     {
         find_target(self.sets[index_in(self.sets.len(), pc)].as_slice(), pc)
     }
@@ -94,8 +96,10 @@ impl Btb {
     /// The transfer at `pc` led to `target`: its entry comes to the front of its set, and the last one
     /// beyond the ways is dropped.
     pub fn update(&mut self, pc: u32, target: u32)
-        ensures sizes { (length self.new.sets ≡ length self.old.sets) × (self.new.ways ≡ self.old.ways) }
-        ensures updated { (updates : List Entry) → BufferStands self.old updates → BufferStands self.new (record { pc = pc; target = target } ∷ updates) }
+        ensures sizes { (length self.new.sets ≡ length self.old.sets)
+            × (self.new.ways ≡ self.old.ways) }
+        ensures updated { (updates : List Entry) → BufferStands self.old updates
+            → BufferStands self.new (record { pc = pc; target = target } ∷ updates) }
     {
         let at = index_in(self.sets.len(), pc);
         enter(&mut self.sets[at], self.ways, Entry { pc, target });

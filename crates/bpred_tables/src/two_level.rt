@@ -23,7 +23,8 @@ fn shifted(history: u32, taken: bool, width: u32) -> u32
 fn pattern(history: u32, instruction: u32, width: u32, xor: bool) -> u64
     requires width { width ≤ 16 }
     requires instruction { instruction < 2 ^ 29 }
-    ensures { result ≡ (if xor then bit_xor history instruction else history + instruction * 2 ^ width) }
+    ensures { result ≡ (if xor then bit_xor history instruction
+        else history + instruction * 2 ^ width) }
 {
     if xor {
         u64::from(history ^ instruction)
@@ -46,9 +47,19 @@ impl Model for TwoLevel {
 
     ghost Value = { TwoTables };
 
-    ghost view = { λ t. record { histories = t.histories.items; counters = t.counters; width = t.width; xored = t.xor } };
+    ghost view = { λ t. record {
+      histories = t.histories.items;
+      counters = t.counters;
+      width = t.width;
+      xored = t.xor;
+    } };
 
-    ghost invariant = { λ t. IsTwoTables (record { histories = t.histories.items; counters = t.counters; width = t.width; xored = t.xor }) };
+    ghost invariant = { λ t. IsTwoTables (record {
+      histories = t.histories.items;
+      counters = t.counters;
+      width = t.width;
+      xored = t.xor;
+    }) };
 }
 
 impl TwoLevel {
@@ -63,7 +74,8 @@ impl TwoLevel {
         requires first { 1 ≤ l1 }
         requires second { 1 ≤ l2 }
         requires width { width ≤ 16 }
-        ensures sizes { IfOk result (λ t. levels_of t ≡ record { first = l1; second = l2; width = width; xored = xor }) }
+        ensures sizes { IfOk result (λ t.
+            levels_of t ≡ record { first = l1; second = l2; width = width; xored = xor }) }
         ensures start { IfOk result (λ t. TwoLevelStands t []) }
     {
         Ok(TwoLevel {
@@ -76,7 +88,9 @@ impl TwoLevel {
 
     /// The place of the counter that pc has now.
     fn second_index(&self, pc: u32) -> usize
-        ensures index { let t = self.now in result ≡ second_place (levels_of t) (slice_index t.histories (place_in (length t.histories) pc)) pc }
+        ensures index { let t = self.now in
+            let history = slice_index t.histories (place_in (length t.histories) pc) in
+            result ≡ second_place (levels_of t) history pc }
         ensures within { result < length self.now.counters }
     {
         let history = self.histories[index_in(self.histories.len(), pc)];

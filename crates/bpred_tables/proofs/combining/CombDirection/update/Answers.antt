@@ -1,4 +1,4 @@
-use Rattle.std.proofs.Common.{◌≡◌, ◌<◌, length, refl, sym, subst, rules}
+use Rattle.std.proofs.Common.{◌≡◌, ◌<◌, length, sym, subst, rules}
 use Rattle.bpred_tables.specs.Updates.{place_in}
 use Rattle.bpred_tables.specs.Tables.{ThreeTables, CombiningStands}
 use Rattle.bpred_tables.proofs.Learning.{combining_step}

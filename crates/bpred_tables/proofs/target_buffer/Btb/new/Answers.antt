@@ -1,4 +1,4 @@
-use Rattle.std.proofs.Common.{◌≡◌, length, refl, sym, ap, ◌∙◌, arith}
+use Rattle.std.proofs.Common.{◌≡◌, length, refl, ◌∙◌, arith}
 use Rattle.std.proofs.lemmas.List.{length-map}
 use Rattle.bpred_tables.proofs.Latest.{length_empty, push_empty, stands_empty}
 use Rattle.bpred_tables.proofs.target_buffer.Btb.new.Goals as goal
