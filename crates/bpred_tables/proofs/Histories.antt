@@ -1,15 +1,19 @@
 -- Counters keep their range, and histories are the number of the last outcomes.
 use Rattle.std.proofs.Common.{◌≡◌, ◌≢◌, ℕ, zero, suc, ◌+◌, ◌*◌, ◌/◌, ◌%◌, ◌^◌, ◌<◌, ◌≤◌, Bool, true, false, List, [], ◌∷◌, take, length, get_or, replicate, inl, inr, refl, sym, ◌∙◌, ap, arith, eqb}
 use Rattle.std.proofs.Math.Nat.{mul-add-mod_self_left, mod-add-div, pow-suc, mod-one, zero-mod, mul_comm}
-use Rattle.std.proofs.lemmas.Bool.{eq-eqb, ne_eqb, cases_lt}
+use Rattle.std.proofs.lemmas.Bool.{le-leb, lt-leb, eq-eqb, ne_eqb, cases_lt}
 use Rattle.std.proofs.lemmas.Nat.{mod_below, pow_pos, mod-mul-add}
 use Rattle.std.proofs.lemmas.List.{get_or-replicate, get_or_past, length-replicate}
-use Rattle.bpred_tables.specs.Updates.{Update, Levels, counter, digit, number_of, outcomes_at, fixed_place, history, place_in}
+use Rattle.bpred_tables.specs.Updates.{Update, Levels, counter, says_taken, digit, number_of, outcomes_at, fixed_place, history, place_in}
 
 pub counter_le : (outcomes : List Bool) → counter outcomes ≤ 3
 counter_le [] = omega arith
 counter_le (true ∷ older) = omega arith
 counter_le (false ∷ older) = omega (arith, counter_le older)
+
+pub alike : (taken : Bool) (older : List Bool) → says_taken (counter (taken ∷ (taken ∷ older))) ≡ taken
+alike true older = le-leb 2 (counter (true ∷ (true ∷ older))) (omega arith)
+alike false older = lt-leb 2 (counter (false ∷ (false ∷ older))) (omega (arith, counter_le older))
 
 digit_le : (b : Bool) → digit b ≤ 1
 digit_le true = omega arith

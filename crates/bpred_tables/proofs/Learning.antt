@@ -67,15 +67,14 @@ levels_stay t i h j c = simp length-set
 
 pub two_level_step : (t : TwoTables) (older : List Update) (u : Update) (i j h c : ℕ)
     → i ≡ place_in (length t.histories) u.pc → i < length t.histories
-    → j ≡ second_place (levels_of t) (get_or t.histories (place_in (length t.histories) u.pc) 0) u.pc → j < length t.counters
+    → j ≡ second_place (levels_of t) (get_or t.histories i 0) u.pc → j < length t.counters
     → h ≡ (2 * get_or t.histories i 0 + digit u.taken) % 2 ^ t.width
     → c ≡ counted u.taken (get_or t.counters j 0)
     → TwoLevelStands t older
     → TwoLevelStands (record { histories = set t.histories i h; counters = set t.counters j c; width = t.width; xored = t.xored }) (u ∷ older)
 two_level_step t older u i j h c at within at' within' next is stands =
-    let second : j ≡ second_place (levels_of t) (get_or t.histories i 0) u.pc = rw at at' in
     let step : Stand (levels_of t) (set t.histories i h) (set t.counters j (counted u.taken (get_or t.counters j 0))) (u ∷ older) =
-    stand_step (levels_of t) t.histories t.counters older u i j h at within second within' next
+    stand_step (levels_of t) t.histories t.counters older u i j h at within at' within' next
     (record { shifts = stands.shifts; counts = stands.counts }) in
     let step' : Stand (levels_of t) (set t.histories i h) (set t.counters j c) (u ∷ older) =
     subst (λ n. Stand (levels_of t) (set t.histories i h) (set t.counters j n) (u ∷ older)) (sym is) step in

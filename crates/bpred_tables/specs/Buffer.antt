@@ -28,4 +28,5 @@ pub record Buffer : Type 0 where
 
 -- the buffer is what these updates, the newest first, leave of an empty one
 pub record BufferStands (b : Buffer) (updates : List Entry) : Type 0 where
-  pub each : (k : ℕ) → k < length b.sets → slice_index_or b.sets k [] ≡ entries (length b.sets) b.ways k updates
+  pub each : (k : ℕ) → k < length b.sets
+      → slice_index_or b.sets k [] ≡ entries (length b.sets) b.ways k updates

@@ -96,11 +96,13 @@ abbrev pub same : Bool → Bool → Bool
 same true b = b
 same false b = not b
 
--- for each update at place k at which both answers, as they were then, differed: whether the two-level one was right
+-- for each update at place k at which both answers, as they were then, differed:
+-- whether the two-level one was right
 abbrev pub contests : Pair → ℕ → List Update → List Bool
 contests p k [] = []
 contests p k (u ∷ older) =
-    if place_in p.choosers u.pc == k && not (same (bimodal p.bimodal_size older u.pc) (two_level p.levels older u.pc))
+    if place_in p.choosers u.pc == k
+    && not (same (bimodal p.bimodal_size older u.pc) (two_level p.levels older u.pc))
     then same (two_level p.levels older u.pc) u.taken ∷ contests p k older
     else contests p k older
 

@@ -24,7 +24,7 @@ pub use directions::{Direction, Fixed};
 pub use laws::{
     agreement_leaves_choosers, cells_stay, counters_saturate, histories_keep_their_width,
     last_targets_are_found, newest_pushes_survive, pops_give_the_push, sets_keep_their_ways,
-    targets_are_those_of_entries, updates_shift_histories,
+    targets_are_those_of_entries, two_alike_decide, updates_shift_histories,
 };
 pub use return_stack::Ras;
 pub use target_buffer::Btb;

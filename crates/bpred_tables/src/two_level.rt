@@ -1,6 +1,6 @@
 //! The two-level adaptive predictor.
-ghost use Rattle.std.specs.Prelude.{◌≡◌, ◌+◌, ◌*◌, ◌%◌, ◌^◌, ◌<◌, ◌≤◌, [], length, slice_index, bit_xor, IfOk, if◌then◌else◌};
-ghost use Rattle.bpred_tables.specs.Updates.{Adaptive, digit, place_in, second_place};
+ghost use Rattle.std.specs.Prelude.{◌≡◌, ◌+◌, ◌*◌, ◌%◌, ◌^◌, ◌<◌, ◌≤◌, [], length, bit_xor, IfOk, if◌then◌else◌};
+ghost use Rattle.bpred_tables.specs.Updates.{Adaptive, digit, second_place};
 ghost use Rattle.bpred_tables.specs.Tables.{TwoTables, TwoLevelStands, levels_of};
 
 use crate::counters::{Counters, index_in};
@@ -86,14 +86,11 @@ impl TwoLevel {
         })
     }
 
-    /// The place of the counter that pc has now.
-    fn second_index(&self, pc: u32) -> usize
-        ensures index { let t = self.now in
-            let history = slice_index t.histories (place_in (length t.histories) pc) in
-            result ≡ second_place (levels_of t) history pc }
+    /// The place of the counter that the branch at `pc` has under a history.
+    fn second_index(&self, history: u32, pc: u32) -> usize
+        ensures index { result ≡ second_place (levels_of self.now) history pc }
         ensures within { result < length self.now.counters }
     {
-        let history = self.histories[index_in(self.histories.len(), pc)];
         let mixed = pattern(history, pc / 8, self.width, self.xor);
         (mixed % self.counters.len() as u64) as usize
     }
@@ -105,13 +102,16 @@ impl Direction for TwoLevel {
     ghost stands_for = { TwoLevelStands };
 
     fn predict(&self, pc: u32) -> bool {
-        self.counters.is_taken(self.second_index(pc))
+        let history = self.histories[index_in(self.histories.len(), pc)];
+        self.counters.is_taken(self.second_index(history, pc))
     }
 
     fn update(&mut self, pc: u32, taken: bool) {
-        let second = self.second_index(pc);
         let first = index_in(self.histories.len(), pc);
+        let history = self.histories[first];
+        let next = shifted(history, taken, self.width);
+        let second = self.second_index(history, pc);
         self.counters.count(second, taken);
-        self.histories[first] = shifted(self.histories[first], taken, self.width);
+        self.histories[first] = next;
     }
 }

@@ -7,15 +7,23 @@ use Rattle.bpred_tables.proofs.two_level.TwoLevelDirection.update.Goals as goal
 
 pub returns-clause-updated : goal.returns-clause-updated
 returns-clause-updated c = λ updates stands.
-    let t : TwoTables = record { histories = c.self.inside.histories.items; counters = c.self.inside.counters; width = c.self.inside.width; xored = c.self.inside.xor } in
+    let t : TwoTables = record {
+      histories = c.self.inside.histories.items;
+      counters = c.self.inside.counters;
+      width = c.self.inside.width;
+      xored = c.self.inside.xor;
+    } in
     let i = c.index_in-first.result in
     let j = c.second_index-second.result in
     let at : i ≡ place_in (length t.histories) c.args.pc = search rules in
     let within : i < length t.histories = search rules in
-    let second = subst (λ (v : TwoTables). j ≡ second_place (levels_of v) (get_or v.histories (place_in (length v.histories) c.args.pc) 0) c.args.pc) (sym c.self.view_is) c.second_index-second.ensures.index in
+    let read : c.index-history.result.now ≡ get_or t.histories i 0 =
+    get_or_read t.histories i c.index-history.result.now within c.index-history.ensures 0 in
+    let by_history = subst (λ (v : TwoTables). j ≡ second_place (levels_of v) c.index-history.result.now c.args.pc) (sym c.self.view_is) c.second_index-second.ensures.index in
+    let second : j ≡ second_place (levels_of t) (get_or t.histories i 0) c.args.pc = rw (← read) by_history in
     let below = subst (λ (v : TwoTables). j < length v.counters) (sym c.self.view_is) c.second_index-second.ensures.within in
-    let read : c.index.result.now ≡ get_or t.histories i 0 = get_or_read t.histories i c.index.result.now within c.index.ensures 0 in
-    let next : c.shifted.result ≡ (2 * get_or t.histories i 0 + digit c.args.taken) % 2 ^ t.width = rw (← read) c.shifted.ensures.next in
+    let next : c.shifted-next.result ≡ (2 * get_or t.histories i 0 + digit c.args.taken) % 2 ^ t.width =
+    rw (← read) c.shifted-next.ensures.next in
     let before = subst (λ (v : TwoTables). TwoLevelStands v updates) (sym c.self.view_is) stands in
     rw c.count.ensures
-    (two_level_step t updates (record { pc = c.args.pc; taken = c.args.taken }) i j c.shifted.result _ at within second below next refl before)
+    (two_level_step t updates (record { pc = c.args.pc; taken = c.args.taken }) i j c.shifted-next.result _ at within second below next refl before)
