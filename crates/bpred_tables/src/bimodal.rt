@@ -10,7 +10,7 @@ use std::alloc::Global;
 use std::marker::Model;
 
 /// One table of two-bit counters, by the instruction's number.
-#[derive(Drop)]
+#[derive(Debug, Drop)]
 pub struct Bimod {
     counters: Counters,
 }

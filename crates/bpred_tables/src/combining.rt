@@ -23,7 +23,7 @@ fn judge(choosers: &mut Counters, at: usize, bimodal: bool, two_level: bool, tak
 }
 
 /// A bimodal and a two-level predictor, and counters that choose between them.
-#[derive(Drop)]
+#[derive(Debug, Drop)]
 pub struct Comb {
     bimodal: Bimod,
     two_level: TwoLevel,

@@ -16,7 +16,7 @@ pub fn index_in(size: usize, pc: u32) -> usize
 }
 
 /// Counters that saturate at 0 and 3.
-#[derive(Drop)]
+#[derive(Debug, Drop)]
 pub struct Counters {
     cells: Vec<u8>,
 }

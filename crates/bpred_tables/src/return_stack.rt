@@ -7,7 +7,7 @@ use std::alloc::Global;
 use std::marker::Model;
 
 /// A ring of cells, and which of them is the top.
-#[derive(Drop)]
+#[derive(Debug, Drop)]
 pub struct Ras {
     cells: Vec<u32>,
     top: u32,

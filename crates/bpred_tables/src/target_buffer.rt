@@ -49,7 +49,7 @@ fn find_target(entries: &[Entry], pc: u32) -> Option<u32>
 }
 
 /// Sets of entries, each a pc with its last target.
-#[derive(Drop)]
+#[derive(Debug, Drop)]
 pub struct Btb {
     sets: Vec<Set>,
     ways: usize,

@@ -34,7 +34,7 @@ fn pattern(history: u32, instruction: u32, width: u32, xor: bool) -> u64
 }
 
 /// Histories of the last outcomes of branches, and counters by history and instruction.
-#[derive(Drop)]
+#[derive(Debug, Drop)]
 pub struct TwoLevel {
     histories: Vec<u32>,
     counters: Counters,
