@@ -12,7 +12,7 @@ latest (u ∷ older) = u ∷ filter (λ e. not (e.pc == u.pc)) (latest older)
 abbrev pub of_set : ℕ → ℕ → List Entry → List Entry
 of_set sets k updates = filter (λ u. place_in sets u.pc == k) updates
 
--- the entries of a set: the last different pcs of that set, at most `ways` of them, each with its last target
+-- the entries of a set: its newest updates of different pcs, as many as there are ways
 abbrev pub entries : ℕ → ℕ → ℕ → List Entry → List Entry
 entries sets ways k updates = take ways (latest (of_set sets k updates))
 

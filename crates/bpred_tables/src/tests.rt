@@ -13,7 +13,7 @@ fn plays<D: Direction>(rt: &impl Abort, direction: &mut D, steps: &[Step]) {
     }
 }
 
-/// Three outcomes of a loop's branch, and what a branch behind it does by turns.
+/// A branch that isn't taken each third time, by turns with one that is taken every other time.
 const LOOP: [(u32, bool); 24] = [
     (0x400000, true),
     (0x400008, true),
