@@ -1,0 +1,6 @@
+use Rattle.std.proofs.Common.{rules, ap, length, arith, lit<}
+use Rattle.pisa_isa.specs.Numbers.{name_fits}
+use Rattle.pisa_isa.proofs.classes.name.Goals as goal
+
+pub push_str-requires : goal.push_str-requires
+push_str-requires c = (lit< tt, omega (arith, name_fits c.args.op, ap length c.of.ensures.name, ap length c.new-text.ensures))

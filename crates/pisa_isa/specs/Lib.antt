@@ -1,0 +1,9 @@
+pub mod Table
+pub mod Fields
+pub mod Coding
+pub mod Texts
+pub mod Classes
+pub mod Places
+pub mod Numbers
+pub mod CodingLaws
+pub mod PlaceLaws

@@ -1,0 +1,193 @@
+ghost use Rattle.std.specs.Prelude.{◌≡◌, ◌≢◌, ◌⊎◌, ◌↔◌, None, IfSome, IsSome, Option, map, string_bytes};
+ghost use Rattle.ss_base.specs.Outside.{OthersStay};
+ghost use Rattle.ecoff_load.specs.Object.{IsImage};
+ghost use Rattle.sim_safe.specs.State.{start_state};
+ghost use Rattle.sim_main.specs.Request.{Request, is_sim_safe, is_object, request_of, object_of};
+ghost use Rattle.sim_main.specs.Outcome.{Counts, Executes, IsOfRun, IsAnswer, IsDetermined, NamesObject, Outcome, SimSafeOutcome, ending_of, stopped, run_ending};
+
+use crate::ending::{Ending, Unbuilt};
+use crate::run::{RunEnd, RunFault, run};
+use ecoff_load::{Image, ObjectFault, StartFault, read};
+use sim_safe::{Arch, Cause};
+use ss_base::{LoadFault, Name, PutFault, Shelf, Sink};
+use std::alloc::Global;
+
+/// The most instructions that a command does.
+const MOST: u64 = 1000000000000000;
+
+/// The longest object, in bytes.
+const OBJECT_LIMIT: u64 = 16777216;
+
+/// The longest start block, in bytes, and what it has besides the bytes of one argument.
+const START_BLOCK_LIMIT: usize = 16384;
+
+const START_BLOCK_FRAME: usize = 17;
+
+/// Whether a word can stand where an object is named.
+fn may_be_object(word: &str) -> bool
+    ensures { result ≡ is_object word.now }
+{
+    !word.is_empty()
+        && word.as_bytes()[0] != b'-'
+        && word.len() <= START_BLOCK_LIMIT - START_BLOCK_FRAME
+}
+
+/// Whether words ask for sim-safe with a commit text.
+fn asks_sim_safe(command: &str, option: &str, file: &str, object: &str) -> bool
+    ensures { result ≡ is_sim_safe command.now option.now file.now object.now }
+{
+    command == "sim-safe" && option == "-commits" && !file.is_empty() && may_be_object(object)
+}
+
+/// The ending of a run that stopped for a cause.
+fn ending_at_stop(cause: Cause, pc: u32, icnt: u64) -> Ending
+    ensures { result ≡ stopped cause pc icnt }
+{
+    match cause {
+        Cause::Exited { code } => Ending::Exited { code },
+        Cause::BadFetch | Cause::Illegal | Cause::TraceEnd { .. } => {
+            Ending::Stopped { cause, pc, icnt }
+        }
+    }
+}
+
+/// The ending of a run.
+fn ending_of_run(end: RunEnd, pc: u32, icnt: u64) -> Ending
+    ensures { result ≡ ending_of end pc icnt }
+{
+    match end {
+        RunEnd::Limit => Ending::Budget,
+        RunEnd::Stop(cause) => ending_at_stop(cause, pc, icnt),
+        RunEnd::NotBuilt { number } => Ending::NotBuilt {
+            what: Unbuilt::Opcode { number, pc, icnt },
+        },
+    }
+}
+
+/// The ending where memory or the arguments of a start do not suffice.
+fn ending_of_start(fault: StartFault) -> Ending {
+    match fault {
+        StartFault::TooLong { .. } | StartFault::OutOfMemory => Ending::OutOfMemory,
+    }
+}
+
+/// Runs a program from its start, and adds its commit text to a file that is started.
+#[tactic(auto, using(crate::proofs::Outcomes::counts_from, crate::proofs::Outcomes::no_fault_from))]
+fn execute<H: Shelf>(
+    alloc: Global,
+    image: Image,
+    arguments: &[String],
+    shelf: &mut H,
+    file: &str,
+) -> Ending
+    requires { IsImage image }
+    ensures run { H.tells shelf.old → Executes (start_state image) (H.files shelf.old) file.now (H.files shelf.new) result }
+    ensures ending { IsAnswer result → result ≡ run_ending (start_state image) }
+    ensures kind { IsOfRun result }
+    ensures count { Counts (H.faults shelf.old) (H.faults shelf.new) result }
+    ensures others { H.tells shelf.old → OthersStay (H.files shelf.old) file.now (H.files shelf.new) }
+    ensures calm { H.calm shelf.old → result ≢ Ending.ShelfFault }
+{
+    match shelf.start(file) {
+        Ok(()) => {}
+        Err(PutFault::Failed) => return Ending::ShelfFault,
+        Err(PutFault::OutOfMemory) => return Ending::OutOfMemory,
+    }
+    let mut arch = match Arch::start(alloc, image, arguments) {
+        Ok(arch) => arch,
+        Err(fault) => return ending_of_start(fault),
+    };
+    match run(alloc, &mut arch, MOST, shelf, file) {
+        Ok(end) => ending_of_run(end, arch.pc(), arch.icnt()),
+        Err(RunFault::Shelf) => Ending::ShelfFault,
+        Err(RunFault::OutOfMemory) => Ending::OutOfMemory,
+    }
+}
+
+/// The ending where an object is too long.
+fn too_long(alloc: Global, object: &str) -> Ending
+    ensures { (result ≡ Ending.TooLong object.now) ⊎ (result ≡ Ending.OutOfMemory) }
+{
+    match String::from_str(alloc, object) {
+        Ok(name) => Ending::TooLong {
+            name: Name::from_string(name),
+        },
+        Err(_) => Ending::OutOfMemory,
+    }
+}
+
+/// Runs an object, and writes its commit text to a file.
+#[tactic(auto, using(crate::proofs::Outcomes::performs_from))]
+fn sim_safe<H: Shelf>(
+    alloc: Global,
+    file: &str,
+    object: &str,
+    arguments: &[String],
+    shelf: &mut H,
+) -> Ending
+    ensures outcome { H.tells shelf.old → SimSafeOutcome file.now object.now (H.files shelf.old) (H.files shelf.new) result }
+    ensures count { Counts (H.faults shelf.old) (H.faults shelf.new) result }
+    ensures words { result ≢ Ending.NotBuilt Unbuilt.Words }
+    ensures budget { result ≢ Ending.Budget }
+    ensures calm { H.calm shelf.old → H.tells shelf.old → IsSome (H.files shelf.old object.now) → result ≢ Ending.ShelfFault }
+{
+    let mut bytes = Vec::new(alloc);
+    match shelf.load(object, OBJECT_LIMIT, &mut bytes) {
+        Ok(()) => {}
+        Err(LoadFault::Failed) => return Ending::ShelfFault,
+        Err(LoadFault::TooLong) => return too_long(alloc, object),
+        Err(LoadFault::OutOfMemory) => return Ending::OutOfMemory,
+    }
+    match read(alloc, bytes.as_slice()) {
+        Ok(image) => execute(alloc, image, arguments, shelf, file),
+        Err(ObjectFault::NotBuilt) => Ending::NotBuilt {
+            what: Unbuilt::Object,
+        },
+        Err(ObjectFault::OutOfMemory) => Ending::OutOfMemory,
+    }
+}
+
+/// Does all that the program does: the command that `words` name, which are the words after the
+/// program's name, with its files on `shelf`, the program's output on `prog` and statistics and
+/// refusals on `stat`.
+///
+/// What is answered and written is the outcome of these words and files; a failing shelf gives
+/// `ShelfFault`, and nothing is written after it. Nothing is put on `prog` and `stat` today.
+pub fn simulate<H: Shelf, P: Sink, R: Sink>(
+    alloc: Global,
+    words: &[String],
+    shelf: &mut H,
+    prog: &mut P,
+    stat: &mut R,
+) -> Ending
+    ensures outcome { H.tells shelf.old → Outcome (request_of (map string_bytes words.now)) (H.files shelf.old) (H.files shelf.new) result }
+    ensures count { Counts (H.faults shelf.old) (H.faults shelf.new) result }
+    ensures words { (result ≡ Ending.NotBuilt Unbuilt.Words) ↔ (request_of (map string_bytes words.now) ≡ None) }
+    ensures budget { result ≢ Ending.Budget }
+    ensures calm { H.calm shelf.old → H.tells shelf.old → IfSome (request_of (map string_bytes words.now)) (λ q. IsSome (H.files shelf.old (object_of q))) → result ≢ Ending.ShelfFault }
+    ensures prog { prog.new ≡ prog.old }
+    ensures stat { stat.new ≡ stat.old }
+{
+    match words {
+        [command, option, file, object]
+            if asks_sim_safe(
+                command.as_str(),
+                option.as_str(),
+                file.as_str(),
+                object.as_str(),
+            ) => {
+            let arguments = &words[3..];
+            sim_safe(alloc, file.as_str(), object.as_str(), arguments, shelf)
+        }
+        _ => Ending::NotBuilt {
+            what: Unbuilt::Words,
+        },
+    }
+}
+
+/// The answers exclude each other: of the same words and files comes one and the same answer,
+/// where neither the outside fails nor memory runs out. So each answer comes exactly where the
+/// outcome says.
+pub fn answers_exclude_each_other()
+    ensures { (request : Option Request) → IsDetermined request }
+{}

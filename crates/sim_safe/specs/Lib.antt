@@ -1,0 +1,5 @@
+pub mod State
+pub mod Record
+pub mod Step
+pub mod Commit
+pub mod Path
