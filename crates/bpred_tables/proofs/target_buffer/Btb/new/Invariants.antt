@@ -1,0 +1,6 @@
+use Rattle.std.proofs.Common.{◌≡◌, [], replicate}
+use Rattle.std.specs.Prelude.{map}
+use Rattle.bpred_tables.proofs.target_buffer.Btb.new.Given as goal
+
+abbrev pub invariant-loop : goal.invariant-loop
+invariant-loop l = map (λ s. s.items) l.empty.items ≡ replicate l.counter []

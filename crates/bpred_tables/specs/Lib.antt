@@ -1,0 +1,4 @@
+pub mod Updates
+pub mod Tables
+pub mod Buffer
+pub mod Stack
