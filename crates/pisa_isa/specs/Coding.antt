@@ -1,4 +1,4 @@
--- How two words code an instruction.
+-- The coding: which two words stand for which instruction, and why others stand for none.
 use Rattle.std.specs.Prelude.{◌≡◌, ◌≢◌, ◌+◌, ◌*◌, ◌-◌, ◌/◌, ◌%◌, ◌^◌, ◌≤◌, ◌<◌, ◌&&◌, ℕ, List, [], ◌∷◌, find, Bool, true, false, Option, Some, None, nat_le, nat_eq, if◌then◌else◌, Result, Ok, Err}
 use Rattle.pisa_isa.specs.declared.instr.Op.{Op}
 use Rattle.pisa_isa.specs.declared.instr.Op.TheVariants as op
@@ -41,7 +41,7 @@ bits word low width = word / 2 ^ low % 2 ^ width
 abbrev pub opcode_of : ℕ → ℕ
 opcode_of first = bits first 0 16
 
--- a field that is used, and else 0
+-- what an instruction has in a field: the bits where the operation uses it, and otherwise 0
 abbrev pub field_of : Bool → ℕ → ℕ
 field_of true field = field
 field_of false field = 0
@@ -60,7 +60,7 @@ pub record IsWellFormed (i : Instr) : Type 0 where
   pub imm : AtMost (uses i.op).imm (2 ^ 16 - 1) i.imm
   pub target : AtMost (uses i.op).target (2 ^ 26 - 1) i.target
 
--- the two words code the instruction
+-- these two words stand for this instruction
 pub record Codes (first second : ℕ) (i : Instr) : Type 0 where
   pub number : number_of i.op ≡ opcode_of first
   pub rs : i.rs ≡ field_of (uses i.op).rs (bits second 24 8)
@@ -71,7 +71,7 @@ pub record Codes (first second : ℕ) (i : Instr) : Type 0 where
   pub target : i.target ≡ field_of (uses i.op).target (bits second 0 26)
   pub well_formed : IsWellFormed i
 
--- the instruction of an operation and a second word
+-- an operation with its fields taken out of a second word, whether in range or not
 abbrev pub instr_of : Op → ℕ → Instr
 instr_of o second = record {
   op = o;
@@ -134,7 +134,7 @@ abbrev pub decoded_as : Option Op → ℕ → Option Instr
 decoded_as None second = None
 decoded_as (Some o) second = checked (instr_of o second)
 
--- what two words code, if anything
+-- the instruction that two words stand for, None where there is none
 abbrev pub decoded : ℕ → ℕ → Option Instr
 decoded first second = decoded_as (operation_of (opcode_of first)) second
 

@@ -1,4 +1,4 @@
--- Laws of the coding.
+-- Laws of the coding and their proofs. Nothing here has to be believed.
 use Rattle.std.proofs.Common.{◌≡◌, ◌+◌, ◌*◌, ◌^◌, ◌≤◌, ◌<◌, ℕ, Bool, true, false, Option, Some, None, Err, nat_le, refl, sym, ap, subst, arith, ◌∙◌}
 use Rattle.std.proofs.lemmas.Bool.Decides.{nat_tests}
 use Rattle.pisa_isa.specs.declared.instr.Op.{Op}
@@ -111,7 +111,7 @@ checked_ok : (i : Instr) → i.rs ≤ 31 → i.rt ≤ highest_rt i.op → i.rd �
     → checked i ≡ Some i
 checked_ok i rs rt rd shamt = grind (arith, nat_tests)
 
--- what is coded is decoded
+-- decoding finds each coded instruction
 pub codes_decoded : (first second : ℕ) (i : Instr) → Codes first second i
     → decoded first second ≡ Some i
 codes_decoded first second i h =

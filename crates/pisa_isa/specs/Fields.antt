@@ -39,7 +39,7 @@ takes_pair kind.LoadPair = true
 takes_pair kind.StorePair = true
 takes_pair _ = false
 
--- the last register that rt may name
+-- the highest register number that rt can have
 abbrev pub last_rt : Bool → ℕ
 last_rt true = 30
 last_rt false = 31

@@ -1,4 +1,4 @@
--- Laws of the places of an instruction.
+-- Laws of the places of an instruction and their proofs. Nothing here has to be believed.
 use Rattle.std.proofs.Common.{◌≡◌, ◌≢◌, ◌+◌, ◌≤◌, ◌<◌, ◌||◌, ◌&&◌, ℕ, lit<, List, [], ◌∷◌, All, filter, not, nat_eq, Bool, true, false, if◌then◌else◌, refl, subst, arith}
 use Rattle.std.proofs.lemmas.Bool.Decides.{nat_tests}
 use Rattle.std.specs.List.{list_any}

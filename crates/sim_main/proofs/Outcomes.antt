@@ -1,20 +1,23 @@
 -- Lemmas on outcomes, by the ending.
-use Rattle.std.specs.Prelude.{◌≡◌, ◌≢◌, ◌+◌, ◌≤◌, ◌<◌, ◌++◌, ℕ, List, [], length, Option, Some, None, unwrap_or}
-use Rattle.std.proofs.Common.{sym, ◌∙◌, ap, arith, refl, inl, inr}
+use Rattle.std.specs.Prelude.{◌≡◌, ◌≢◌, ◌+◌, ◌≤◌, ◌<◌, ◌++◌, ℕ, List, [], ◌∷◌, length, Option, Some, None, unwrap_or}
+use Rattle.std.proofs.Common.{sym, ◌∙◌, ap, arith, refl, subst, inl, inr, ⊎_elim, length-append}
 use Rattle.ss_base.specs.Outside.{Files, bytes_at, SameFiles, OthersStay}
 use Rattle.ecoff_load.specs.Object.{IsOneText}
+use Rattle.ecoff_load.specs.declared.image.Image.{Image}
 use Rattle.sim_safe.specs.declared.record.Cause.{Cause}
 use Rattle.sim_safe.specs.declared.record.Cause.TheVariants as cause
-use Rattle.sim_safe.specs.State.{State}
-use Rattle.sim_main.specs.Run.{end_of, state_after, in_the_end}
+use Rattle.sim_safe.specs.State.{State, start_state}
+use Rattle.sim_main.specs.Run.{end_of, state_after}
+use Rattle.sim_main.specs.Writing.{in_the_end}
 use Rattle.sim_main.proofs.Ends.{run_has_end}
-use Rattle.sim_main.specs.Request.{Request, SimSafe}
-use Rattle.sim_main.specs.Outcome.{Outcome, SimSafeOutcome, Executes, Completes, IsOfRun, IsAnswer, IsDetermined, Counts, ending_of, stopped, most, commits_of, run_ending, start_of}
+use Rattle.sim_main.specs.Request.{Request, SimSafe, start_block_length}
+use Rattle.sim_main.specs.Outcome.{Outcome, SimSafeOutcome, Executes, Completes, IsOfRun, IsAnswer, IsDetermined, Counts, LoadsObject, MayLoad, NamesObject, ending_of, stopped, most, commits_of, run_ending, start_of}
 use Rattle.sim_main.specs.declared.run.RunEnd.{RunEnd}
 use Rattle.sim_main.specs.declared.run.RunEnd.TheVariants as ends
 use Rattle.sim_main.specs.declared.ending.Ending.{Ending}
 use Rattle.sim_main.specs.declared.ending.Ending.TheVariants as ending
 use Rattle.sim_main.specs.declared.ending.Unbuilt.TheVariants as unbuilt
+use Rattle.sim_main.specs.declared.simulate.Loaded.TheVariants as loaded
 
 -- a run that came to its end, which is not its limit
 pub executes_from : (s : State) (old : Files) (file : List ℕ) (new : Files) (end : RunEnd) (pc icnt : ℕ) → end ≢ ends.Limit
@@ -50,18 +53,65 @@ no_fault_from (ends.Stop cause.Illegal) pc icnt = λ h. cc
 no_fault_from (ends.Stop (cause.TraceEnd used)) pc icnt = λ h. cc
 no_fault_from (ends.NotBuilt number) pc icnt = λ h. cc
 
+-- a run in files that are those of before
+run_in : (s : State) (old mid new : Files) (file : List ℕ) (e : Ending) → SameFiles old mid → Executes s mid file new e → Executes s old file new e
+run_in s old mid new file ending.ShelfFault m x = ⊎_elim (λ h. inl (h ∙ m file)) (λ h. inr h) x
+run_in s old mid new file ending.OutOfMemory m x = ⊎_elim (λ h. inl (h ∙ m file)) (λ h. inr h) x
+run_in s old mid new file (ending.Exited code) m x = x
+run_in s old mid new file (ending.Stopped why pc icnt) m x = x
+run_in s old mid new file ending.Budget m x = x
+run_in s old mid new file (ending.TooLong name) m x = x
+run_in s old mid new file (ending.NotBuilt what) m x = x
+
 -- a run of an object that has the built form
-pub performs_from : (file object : List ℕ) (old new : Files) (e : Ending) → length (bytes_at old object) ≤ 16777216 → IsOneText (bytes_at old object) → OthersStay old file new
+ran : (file object : List ℕ) (old new : Files) (e : Ending) → length (bytes_at old object) ≤ 16777216 → IsOneText (bytes_at old object) → OthersStay old file new
     → Executes (start_of (bytes_at old object)) old file new e → IsOfRun e → SimSafeOutcome file object old new e
-performs_from file object old new ending.ShelfFault l f o x k = record { front = x; others = o }
-performs_from file object old new ending.OutOfMemory l f o x k = record { front = x; others = o }
-performs_from file object old new (ending.Exited code) l f o x k = record { limit = l; form = f; run = x; others = o }
-performs_from file object old new (ending.Stopped why pc icnt) l f o x k = record { limit = l; form = f; run = x; others = o }
-performs_from file object old new ending.Budget l f o x k = absurd k
-performs_from file object old new (ending.TooLong name) l f o x k = absurd k
-performs_from file object old new (ending.NotBuilt unbuilt.Words) l f o x k = absurd k
-performs_from file object old new (ending.NotBuilt unbuilt.Object) l f o x k = absurd k
-performs_from file object old new (ending.NotBuilt (unbuilt.Opcode number pc icnt)) l f o x k = record { limit = l; form = f; run = x; others = o }
+ran file object old new ending.ShelfFault l f o x k = inr (record { limit = l; form = f; front = x; others = o })
+ran file object old new ending.OutOfMemory l f o x k = inr (record { limit = l; form = f; front = x; others = o })
+ran file object old new (ending.Exited code) l f o x k = record { limit = l; form = f; run = x; others = o }
+ran file object old new (ending.Stopped why pc icnt) l f o x k = record { limit = l; form = f; run = x; others = o }
+ran file object old new ending.Budget l f o x k = absurd k
+ran file object old new (ending.TooLong name) l f o x k = absurd k
+ran file object old new (ending.NotBuilt unbuilt.Words) l f o x k = absurd k
+ran file object old new (ending.NotBuilt unbuilt.Object) l f o x k = absurd k
+ran file object old new (ending.NotBuilt (unbuilt.Opcode number pc icnt)) l f o x k = record { limit = l; form = f; run = x; others = o }
+
+pub performs_run : (file object : List ℕ) (old mid new : Files) (image : Image) (e : Ending) → LoadsObject object (bytes_at old object) (loaded.Program image) → SameFiles old mid → OthersStay mid file new
+    → Executes (start_state image) mid file new e → IsOfRun e → SimSafeOutcome file object old new e
+performs_run file object old mid new image e l m o x k =
+    let at : Executes (start_of (bytes_at old object)) mid file new e = subst (λ (i : Image). Executes (start_state i) mid file new e) l.1.value x in
+    ran file object old new e l.0 l.1.form (λ other d. o other d ∙ m other) (run_in (start_of (bytes_at old object)) old mid new file e m at) k
+
+-- a load that was refused
+pub performs_refusal : (file object : List ℕ) (old new : Files) (e : Ending) → LoadsObject object (bytes_at old object) (loaded.Refused e) → SameFiles old new → SimSafeOutcome file object old new e
+performs_refusal file object old new ending.ShelfFault l m = inl m
+performs_refusal file object old new ending.OutOfMemory l m = inl m
+performs_refusal file object old new (ending.Exited code) l m = absurd l
+performs_refusal file object old new (ending.Stopped why pc icnt) l m = absurd l
+performs_refusal file object old new ending.Budget l m = absurd l
+performs_refusal file object old new (ending.TooLong name) l m = record { cause = l; same = m }
+performs_refusal file object old new (ending.NotBuilt unbuilt.Words) l m = absurd l
+performs_refusal file object old new (ending.NotBuilt unbuilt.Object) l m = record { cause = l; same = m }
+performs_refusal file object old new (ending.NotBuilt (unbuilt.Opcode number pc icnt)) l m = absurd l
+
+-- what a run or a refusal answers has no other kind of ending
+pub run_names : (request : Option Request) (e : Ending) → IsOfRun e → NamesObject request e
+run_names request ending.ShelfFault k = tt
+run_names request ending.OutOfMemory k = tt
+run_names request (ending.Exited code) k = tt
+run_names request (ending.Stopped why pc icnt) k = tt
+run_names request ending.Budget k = tt
+run_names request (ending.TooLong name) k = absurd k
+run_names request (ending.NotBuilt what) k = tt
+
+pub refusal_names : (file object : List ℕ) (e : Ending) → MayLoad object (loaded.Refused e) → NamesObject (Some (SimSafe file object)) e
+refusal_names file object ending.ShelfFault k = tt
+refusal_names file object ending.OutOfMemory k = tt
+refusal_names file object (ending.Exited code) k = tt
+refusal_names file object (ending.Stopped why pc icnt) k = tt
+refusal_names file object ending.Budget k = tt
+refusal_names file object (ending.TooLong name) k = k
+refusal_names file object (ending.NotBuilt what) k = tt
 
 -- the three ways in which sim-safe answers
 pub data Answers (bytes object : List ℕ) (e : Ending) : Type 0 where
@@ -115,3 +165,7 @@ not_at_limit s a end k f e = λ h. run_has_end s f (sym (same_end s a end k e) �
 pub whole_text : (s a : State) (mid new : Files) (file : List ℕ) → a ≡ s → mid file ≡ Some [] → new file ≡ Some (in_the_end mid file [] most a) → new file ≡ Some (commits_of s)
 whole_text s a mid new file k m t =
     t ∙ ap (λ (l : Option (List ℕ)). Some (unwrap_or l [] ++ ([] ++ commits_of a))) m ∙ ap (λ (u : State). Some (commits_of u)) k
+
+-- the start block of one argument has 17 bytes besides those of the argument
+pub block_of_one : (name : List ℕ) → start_block_length (name ∷ []) ≡ 17 + length name
+block_of_one name = omega (arith, length-append (name ++ 0 ∷ []) [], length-append name (0 ∷ []))

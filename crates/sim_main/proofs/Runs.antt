@@ -11,7 +11,8 @@ use Rattle.sim_safe.specs.Step.{Outcome, Next, Halt, Unbuilt, step_of}
 use Rattle.sim_safe.specs.Commit.{line_of}
 use Rattle.sim_main.specs.declared.run.RunEnd.{RunEnd}
 use Rattle.sim_main.specs.declared.run.RunEnd.TheVariants as ends
-use Rattle.sim_main.specs.Run.{records_more, records_of, state_more, state_after, end_more, end_within, end_of, end_at_limit, text_of, in_the_end}
+use Rattle.sim_main.specs.Run.{records_more, records_of, state_more, state_after, end_more, end_within, end_of, end_at_limit, text_of}
+use Rattle.sim_main.specs.Writing.{in_the_end}
 
 -- what one more step gives
 pub records_of_suc : (n : ℕ) (s : State) (o : Outcome) → 0 < n → o ≡ step_of s → records_of n s ≡ records_more (records_of (n - 1)) o

@@ -1,3 +1,4 @@
 pub mod Run
+pub mod Writing
 pub mod Request
 pub mod Outcome

@@ -1,7 +1,7 @@
 -- How commands end, and what they write.
 use Rattle.std.specs.Prelude.{◌≡◌, ◌<◌, ◌≤◌, ◌⊎◌, ℕ, List, length, Option, Some, None}
 use Rattle.ss_base.specs.Outside.{Files, bytes_at, BeginsWith, SameFiles, OthersStay, Rose}
-use Rattle.ecoff_load.specs.Object.{IsOneText, image_at}
+use Rattle.ecoff_load.specs.Object.{IsOneText, IsObject, IsImage, image_at}
 use Rattle.sim_safe.specs.declared.record.Cause.{Cause}
 use Rattle.sim_safe.specs.declared.record.Cause.TheVariants as cause
 use Rattle.sim_safe.specs.State.{State, start_state}
@@ -12,6 +12,8 @@ use Rattle.sim_main.specs.declared.run.RunEnd.TheVariants as ends
 use Rattle.sim_main.specs.declared.ending.Ending.{Ending}
 use Rattle.sim_main.specs.declared.ending.Ending.TheVariants as ending
 use Rattle.sim_main.specs.declared.ending.Unbuilt.TheVariants as unbuilt
+use Rattle.sim_main.specs.declared.simulate.Loaded.{Loaded}
+use Rattle.sim_main.specs.declared.simulate.Loaded.TheVariants as loaded
 
 -- the status of the program
 abbrev pub status_of : Ending → ℕ
@@ -38,7 +40,7 @@ ending_of (ends.NotBuilt number) pc icnt = ending.NotBuilt (unbuilt.Opcode numbe
 
 -- the most instructions of a command
 abbrev pub most : ℕ
-most = 1000000000000000
+most = 1000000000
 
 -- the commit text of a run from a start state
 abbrev pub commits_of : State → List ℕ
@@ -68,10 +70,16 @@ pub record RunsObject (bytes : List ℕ) (old : Files) (file : List ℕ) (new : 
   pub run : Completes (start_of bytes) new file e
   pub others : OthersStay old file new
 
--- the command gave up: its file is as before or holds a front of its text, all others stay
-pub record GivesUp (bytes : List ℕ) (old : Files) (file : List ℕ) (new : Files) : Type 0 where
+-- the run was given up: its file is as before or holds a front of its text, all others stay
+pub record GivesUpRun (bytes : List ℕ) (old : Files) (file : List ℕ) (new : Files) : Type 0 where
+  pub limit : length bytes ≤ 16777216
+  pub form : IsOneText bytes
   pub front : HoldsFront old file (commits_of (start_of bytes)) new
   pub others : OthersStay old file new
+
+-- the command gave up: before its run no file has changed
+abbrev pub GivesUp : List ℕ → Files → List ℕ → Files → Type 0
+GivesUp bytes old file new = SameFiles old new ⊎ GivesUpRun bytes old file new
 
 -- the command refused for a cause, and no file is written
 pub record Refuses (old new : Files) (P : Type 0) : Type 0 where
@@ -120,10 +128,49 @@ IsAnswer (ending.TooLong name) = Unit {0}
 IsAnswer (ending.NotBuilt what) = Unit {0}
 
 -- a file that is too long is the object, named as the words name it
+abbrev pub IsLongName : Option Request → List ℕ → Type 0
+IsLongName (Some (SimSafe commits object)) name = name ≡ object
+IsLongName None name = ⊥
+
 abbrev pub NamesObject : Option Request → Ending → Type 0
-NamesObject (Some (SimSafe commits object)) (ending.TooLong name) = name ≡ object
-NamesObject None (ending.TooLong name) = ⊥
-NamesObject request _ = Unit {0}
+NamesObject request (ending.TooLong name) = IsLongName request name
+NamesObject request ending.ShelfFault = Unit {0}
+NamesObject request ending.OutOfMemory = Unit {0}
+NamesObject request (ending.Exited code) = Unit {0}
+NamesObject request (ending.Stopped why pc icnt) = Unit {0}
+NamesObject request ending.Budget = Unit {0}
+NamesObject request (ending.NotBuilt what) = Unit {0}
+
+-- what the load of an object comes to: its image, or the ending that refuses it
+abbrev pub LoadsObject : List ℕ → List ℕ → Loaded → Type 0
+LoadsObject object bytes (loaded.Program image) = (length bytes ≤ 16777216) × IsObject bytes image
+LoadsObject object bytes (loaded.Refused (ending.TooLong name)) = (name ≡ object) × (16777216 < length bytes)
+LoadsObject object bytes (loaded.Refused ending.ShelfFault) = Unit {0}
+LoadsObject object bytes (loaded.Refused ending.OutOfMemory) = Unit {0}
+LoadsObject object bytes (loaded.Refused (ending.NotBuilt unbuilt.Object)) = (IsOneText bytes → ⊥) × (length bytes ≤ 16777216)
+LoadsObject object bytes (loaded.Refused (ending.NotBuilt unbuilt.Words)) = ⊥
+LoadsObject object bytes (loaded.Refused (ending.NotBuilt (unbuilt.Opcode number pc icnt))) = ⊥
+LoadsObject object bytes (loaded.Refused (ending.Exited code)) = ⊥
+LoadsObject object bytes (loaded.Refused (ending.Stopped why pc icnt)) = ⊥
+LoadsObject object bytes (loaded.Refused ending.Budget) = ⊥
+
+-- the same without the object's bytes: which endings refuse it
+abbrev pub MayLoad : List ℕ → Loaded → Type 0
+MayLoad object (loaded.Program image) = IsImage image
+MayLoad object (loaded.Refused (ending.TooLong name)) = name ≡ object
+MayLoad object (loaded.Refused ending.ShelfFault) = Unit {0}
+MayLoad object (loaded.Refused ending.OutOfMemory) = Unit {0}
+MayLoad object (loaded.Refused (ending.NotBuilt unbuilt.Object)) = Unit {0}
+MayLoad object (loaded.Refused (ending.NotBuilt unbuilt.Words)) = ⊥
+MayLoad object (loaded.Refused (ending.NotBuilt (unbuilt.Opcode number pc icnt))) = ⊥
+MayLoad object (loaded.Refused (ending.Exited code)) = ⊥
+MayLoad object (loaded.Refused (ending.Stopped why pc icnt)) = ⊥
+MayLoad object (loaded.Refused ending.Budget) = ⊥
+
+-- the count of faults over the load
+abbrev pub LoadedCounts : ℕ → ℕ → Loaded → Type 0
+LoadedCounts before now (loaded.Program image) = now ≡ before
+LoadedCounts before now (loaded.Refused e) = Counts before now e
 
 -- a run from a start state, whose text goes to a file
 abbrev pub Executes : State → Files → List ℕ → Files → Ending → Type 0

@@ -1,15 +1,15 @@
 -- What the words ask for.
-use Rattle.std.specs.Prelude.{◌+◌, ◌*◌, ℕ, Bool, true, false, List, [], ◌∷◌, length, Option, Some, None, nat_lt, nat_le, nat_eq, codes, slice_index, sum_by, if◌then◌else◌}
+use Rattle.std.specs.Prelude.{◌+◌, ℕ, Bool, true, false, List, [], ◌∷◌, length, Option, Some, None, nat_lt, nat_le, nat_eq, codes, slice_index, if◌then◌else◌}
 use Rattle.std.specs.Str.{bytes_eq}
+use Rattle.ecoff_load.specs.Start.{words_length, ended_strings}
 
 pub data Request : Type 0 where
   -- run an object, and write its commit text to a file
   SimSafe : (commits : List ℕ) (object : List ℕ) → Request
 
--- the bytes of the block that a program finds on its stack: the number of its arguments, a
--- pointer to each, two zero words, and the arguments, each with a zero byte at its end
+-- how many bytes the start block of these arguments has
 abbrev pub start_block_length : List (List ℕ) → ℕ
-start_block_length arguments = 4 + 4 * length arguments + 8 + sum_by (λ a. length a + 1) arguments
+start_block_length arguments = words_length arguments + length (ended_strings arguments)
 
 -- the name can stand where an object is named: it is there, is no option, and fits the block
 abbrev pub is_object : List ℕ → Bool

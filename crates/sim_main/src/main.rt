@@ -2,7 +2,7 @@
 //!
 //! `simulate` does all that the program does, over any files and streams. Its contract is the
 //! whole outcome: which words and objects are refused and how, how a run ends, what each file
-//! holds, and that a failing outside is answered as such and nothing is written after it.
+//! holds, also after a fault or want of memory, and that a failing outside is answered as such.
 #![tactic(auto)]
 
 mod ending;

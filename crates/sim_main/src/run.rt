@@ -1,6 +1,7 @@
 ghost use Rattle.std.specs.Prelude.{◌≡◌, ◌≢◌, ◌+◌, ◌^◌, ◌<◌, ◌≤◌, ℕ, IfOk, OnOk};
 ghost use Rattle.ss_base.specs.Outside.{OthersStay};
-ghost use Rattle.sim_main.specs.Run.{KeepsText, KeepsEnd, Flushes, Runs, Steps, RunCounts, StepCounts, end_of, end_within, state_after, run_fault_of};
+ghost use Rattle.sim_main.specs.Run.{end_of, end_within, state_after};
+ghost use Rattle.sim_main.specs.Writing.{KeepsText, KeepsEnd, Flushes, Runs, Steps, RunCounts, StepCounts, run_fault_of};
 
 use sim_safe::{Arch, Cause, Stepped, commit_line};
 use ss_base::{PutFault, Shelf};
@@ -155,7 +156,8 @@ pub fn run<H: Shelf>(
     ensures count { RunCounts (H.faults shelf.old) (H.faults shelf.new) result }
     ensures telling { H.tells shelf.old → H.tells shelf.new }
     ensures others { H.tells shelf.old → OthersStay (H.files shelf.old) file.now (H.files shelf.new) }
-    ensures calm { H.calm shelf.old → result ≢ Err RunFault.Shelf }
+    ensures calm { H.calm shelf.old → H.calm shelf.new }
+    ensures succeeds { H.calm shelf.old → result ≢ Err RunFault.Shelf }
 {
     let mut pending = Vec::new(alloc);
     match steps(arch, limit, &mut pending, shelf, file) {

@@ -1,19 +1,19 @@
 ghost use Rattle.std.specs.Prelude.{◌≡◌, ◌≢◌, ◌⊎◌, ◌↔◌, None, IfSome, IsSome, Option, map, string_bytes};
-ghost use Rattle.ss_base.specs.Outside.{OthersStay};
+ghost use Rattle.ss_base.specs.Outside.{OthersStay, SameFiles, bytes_at};
 ghost use Rattle.ecoff_load.specs.Object.{IsImage};
 ghost use Rattle.sim_safe.specs.State.{start_state};
-ghost use Rattle.sim_main.specs.Request.{Request, is_sim_safe, is_object, request_of, object_of};
-ghost use Rattle.sim_main.specs.Outcome.{Counts, Executes, IsOfRun, IsAnswer, IsDetermined, NamesObject, Outcome, SimSafeOutcome, ending_of, stopped, run_ending};
+ghost use Rattle.sim_main.specs.Request.{Request, SimSafe, is_sim_safe, is_object, request_of, object_of};
+ghost use Rattle.sim_main.specs.Outcome.{Counts, Executes, IsOfRun, IsAnswer, IsDetermined, LoadsObject, MayLoad, LoadedCounts, NamesObject, Outcome, SimSafeOutcome, ending_of, stopped, run_ending};
 
 use crate::ending::{Ending, Unbuilt};
 use crate::run::{RunEnd, RunFault, run};
-use ecoff_load::{Image, ObjectFault, StartFault, read};
+use ecoff_load::{Image, ObjectFault, read};
 use sim_safe::{Arch, Cause};
 use ss_base::{LoadFault, Name, PutFault, Shelf, Sink};
 use std::alloc::Global;
 
 /// The most instructions that a command does.
-const MOST: u64 = 1000000000000000;
+const MOST: u64 = 1000000000;
 
 /// The longest object, in bytes.
 const OBJECT_LIMIT: u64 = 16777216;
@@ -24,6 +24,7 @@ const START_BLOCK_LIMIT: usize = 16384;
 const START_BLOCK_FRAME: usize = 17;
 
 /// Whether a word can stand where an object is named.
+#[tactic(auto, using(crate::proofs::Outcomes::block_of_one))]
 fn may_be_object(word: &str) -> bool
     ensures { result ≡ is_object word.now }
 {
@@ -64,13 +65,6 @@ fn ending_of_run(end: RunEnd, pc: u32, icnt: u64) -> Ending
     }
 }
 
-/// The ending where memory or the arguments of a start do not suffice.
-fn ending_of_start(fault: StartFault) -> Ending {
-    match fault {
-        StartFault::TooLong { .. } | StartFault::OutOfMemory => Ending::OutOfMemory,
-    }
-}
-
 /// Runs a program from its start, and adds its commit text to a file that is started.
 #[tactic(auto, using(crate::proofs::Outcomes::counts_from, crate::proofs::Outcomes::no_fault_from))]
 fn execute<H: Shelf>(
@@ -86,7 +80,9 @@ fn execute<H: Shelf>(
     ensures kind { IsOfRun result }
     ensures count { Counts (H.faults shelf.old) (H.faults shelf.new) result }
     ensures others { H.tells shelf.old → OthersStay (H.files shelf.old) file.now (H.files shelf.new) }
-    ensures calm { H.calm shelf.old → result ≢ Ending.ShelfFault }
+    ensures telling { H.tells shelf.old → H.tells shelf.new }
+    ensures calm { H.calm shelf.old → H.calm shelf.new }
+    ensures succeeds { H.calm shelf.old → result ≢ Ending.ShelfFault }
 {
     match shelf.start(file) {
         Ok(()) => {}
@@ -95,7 +91,8 @@ fn execute<H: Shelf>(
     }
     let mut arch = match Arch::start(alloc, image, arguments) {
         Ok(arch) => arch,
-        Err(fault) => return ending_of_start(fault),
+        // a start refuses nothing today; what it may come to want is memory
+        Err(_) => return Ending::OutOfMemory,
     };
     match run(alloc, &mut arch, MOST, shelf, file) {
         Ok(end) => ending_of_run(end, arch.pc(), arch.icnt()),
@@ -116,8 +113,40 @@ fn too_long(alloc: Global, object: &str) -> Ending
     }
 }
 
+/// What the load of an object comes to.
+enum Loaded {
+    Program(Image),
+    Refused(Ending),
+}
+
+/// Loads an object and reads its image. No file is written.
+fn load_object<H: Shelf>(alloc: Global, object: &str, shelf: &mut H) -> Loaded
+    ensures outcome { H.tells shelf.old → LoadsObject object.now (bytes_at (H.files shelf.old) object.now) result }
+    ensures same { H.tells shelf.old → SameFiles (H.files shelf.old) (H.files shelf.new) }
+    ensures kind { MayLoad object.now result }
+    ensures count { LoadedCounts (H.faults shelf.old) (H.faults shelf.new) result }
+    ensures telling { H.tells shelf.old → H.tells shelf.new }
+    ensures calm { H.calm shelf.old → H.calm shelf.new }
+    ensures succeeds { H.calm shelf.old → H.tells shelf.old → IsSome (H.files shelf.old object.now) → result ≢ Loaded.Refused Ending.ShelfFault }
+{
+    let mut bytes = Vec::new(alloc);
+    match shelf.load(object, OBJECT_LIMIT, &mut bytes) {
+        Ok(()) => {}
+        Err(LoadFault::Failed) => return Loaded::Refused(Ending::ShelfFault),
+        Err(LoadFault::TooLong) => return Loaded::Refused(too_long(alloc, object)),
+        Err(LoadFault::OutOfMemory) => return Loaded::Refused(Ending::OutOfMemory),
+    }
+    match read(alloc, bytes.as_slice()) {
+        Ok(image) => Loaded::Program(image),
+        Err(ObjectFault::NotBuilt) => Loaded::Refused(Ending::NotBuilt {
+            what: Unbuilt::Object,
+        }),
+        Err(ObjectFault::OutOfMemory) => Loaded::Refused(Ending::OutOfMemory),
+    }
+}
+
 /// Runs an object, and writes its commit text to a file.
-#[tactic(auto, using(crate::proofs::Outcomes::performs_from))]
+#[tactic(auto, using(crate::proofs::Outcomes::performs_run, crate::proofs::Outcomes::performs_refusal, crate::proofs::Outcomes::run_names, crate::proofs::Outcomes::refusal_names))]
 fn sim_safe<H: Shelf>(
     alloc: Global,
     file: &str,
@@ -129,21 +158,14 @@ fn sim_safe<H: Shelf>(
     ensures count { Counts (H.faults shelf.old) (H.faults shelf.new) result }
     ensures words { result ≢ Ending.NotBuilt Unbuilt.Words }
     ensures budget { result ≢ Ending.Budget }
-    ensures calm { H.calm shelf.old → H.tells shelf.old → IsSome (H.files shelf.old object.now) → result ≢ Ending.ShelfFault }
+    ensures names { NamesObject (Some (SimSafe file.now object.now)) result }
+    ensures telling { H.tells shelf.old → H.tells shelf.new }
+    ensures calm { H.calm shelf.old → H.calm shelf.new }
+    ensures succeeds { H.calm shelf.old → H.tells shelf.old → IsSome (H.files shelf.old object.now) → result ≢ Ending.ShelfFault }
 {
-    let mut bytes = Vec::new(alloc);
-    match shelf.load(object, OBJECT_LIMIT, &mut bytes) {
-        Ok(()) => {}
-        Err(LoadFault::Failed) => return Ending::ShelfFault,
-        Err(LoadFault::TooLong) => return too_long(alloc, object),
-        Err(LoadFault::OutOfMemory) => return Ending::OutOfMemory,
-    }
-    match read(alloc, bytes.as_slice()) {
-        Ok(image) => execute(alloc, image, arguments, shelf, file),
-        Err(ObjectFault::NotBuilt) => Ending::NotBuilt {
-            what: Unbuilt::Object,
-        },
-        Err(ObjectFault::OutOfMemory) => Ending::OutOfMemory,
+    match load_object(alloc, object, shelf) {
+        Loaded::Program(image) => execute(alloc, image, arguments, shelf, file),
+        Loaded::Refused(ending) => ending,
     }
 }
 
@@ -151,8 +173,8 @@ fn sim_safe<H: Shelf>(
 /// program's name, with its files on `shelf`, the program's output on `prog` and statistics and
 /// refusals on `stat`.
 ///
-/// What is answered and written is the outcome of these words and files; a failing shelf gives
-/// `ShelfFault`, and nothing is written after it. Nothing is put on `prog` and `stat` today.
+/// What is answered and written is the outcome of these words and files, and a failing shelf gives
+/// `ShelfFault`. Nothing is put on `prog` and `stat` today.
 pub fn simulate<H: Shelf, P: Sink, R: Sink>(
     alloc: Global,
     words: &[String],
@@ -164,7 +186,10 @@ pub fn simulate<H: Shelf, P: Sink, R: Sink>(
     ensures count { Counts (H.faults shelf.old) (H.faults shelf.new) result }
     ensures words { (result ≡ Ending.NotBuilt Unbuilt.Words) ↔ (request_of (map string_bytes words.now) ≡ None) }
     ensures budget { result ≢ Ending.Budget }
-    ensures calm { H.calm shelf.old → H.tells shelf.old → IfSome (request_of (map string_bytes words.now)) (λ q. IsSome (H.files shelf.old (object_of q))) → result ≢ Ending.ShelfFault }
+    ensures names { NamesObject (request_of (map string_bytes words.now)) result }
+    ensures telling { H.tells shelf.old → H.tells shelf.new }
+    ensures calm { H.calm shelf.old → H.calm shelf.new }
+    ensures succeeds { H.calm shelf.old → H.tells shelf.old → IfSome (request_of (map string_bytes words.now)) (λ q. IsSome (H.files shelf.old (object_of q))) → result ≢ Ending.ShelfFault }
     ensures prog { prog.new ≡ prog.old }
     ensures stat { stat.new ≡ stat.old }
 {

@@ -173,16 +173,51 @@ fn objects_have_a_limit(rt: HostRuntime) -> Result<(), Fail> {
     Ok(())
 }
 
-#[test]
-fn long_commit_texts_are_written_in_pieces(rt: HostRuntime) -> Result<(), Fail> {
-    let count = 8000u32;
-    let mut object = Vec::from_slice(rt.alloc(), &P1[..116])?;
+/// The object of so many NOPs.
+fn nops(alloc: Global, count: u32) -> Result<Vec<u8>, Fail>
+    requires { count < 100000 }
+{
+    let mut object = Vec::from_slice(alloc, &P1[..116])?;
     object.resize(116 + 8 * count as usize, 0)?;
     for (index, byte) in (8 * count).to_le_bytes().iter().enumerate() {
         if let Some(slot) = object.get_mut(92 + index) {
             *slot = *byte;
         }
     }
+    Ok(object)
+}
+
+/// The lines of so many NOPs.
+fn nop_lines(alloc: Global, count: u32) -> Result<String, Fail>
+    requires { count < 100000 }
+{
+    let mut lines = String::new(alloc);
+    for number in 0..count {
+        let pc = 0x0040_0000 + 8 * number;
+        lines.push_str(format!(in alloc; "{number} {pc:08x} NOP\n")?.as_str())?;
+    }
+    Ok(lines)
+}
+
+#[test]
+fn nothing_is_written_after_a_fault(rt: HostRuntime) -> Result<(), Fail> {
+    // A piece is written once it has more than 65,408 bytes: after 3,696 lines, which are
+    // 10 of 15, 90 of 16, 900 of 17, 2,696 of 18 bytes and come to 65,418. The second append fails.
+    let object = nops(rt.alloc(), 8000)?;
+    let mut shelf = MemShelf::new(rt.alloc());
+    shelf.add("p1", object.as_slice())?;
+    shelf.fail_call(3)?;
+    let words = ["sim-safe", "-commits", "c", "p1"];
+    let ending = perform(rt.alloc(), &words, &mut shelf)?;
+    assert!(rt; matches!(ending, Ending::ShelfFault));
+    let piece = nop_lines(rt.alloc(), 3696)?;
+    assert!(rt; shelf.bytes("c") == Some(piece.as_bytes()));
+    Ok(())
+}
+
+#[test]
+fn long_commit_texts_are_written_in_pieces(rt: HostRuntime) -> Result<(), Fail> {
+    let object = nops(rt.alloc(), 8000)?;
     let (ending, commits) = run(rt.alloc(), object.as_slice())?;
     assert!(rt;
         matches!(
@@ -194,11 +229,7 @@ fn long_commit_texts_are_written_in_pieces(rt: HostRuntime) -> Result<(), Fail> 
             }
         )
     );
-    let mut expected = String::new(rt.alloc());
-    for number in 0..count {
-        let pc = 0x0040_0000 + 8 * number;
-        expected.push_str(format!(in rt.alloc(); "{number} {pc:08x} NOP\n")?.as_str())?;
-    }
+    let expected = nop_lines(rt.alloc(), 8000)?;
     assert!(rt; commits.is_some_and(|text| text.as_slice() == expected.as_bytes()));
     Ok(())
 }

@@ -3,7 +3,8 @@ ghost use Rattle.std.specs.List.{AllByRecursion};
 ghost use Rattle.ecoff_load.specs.Object.{IsImage};
 ghost use Rattle.sim_safe.specs.Record.{record_of};
 ghost use Rattle.sim_safe.specs.State.{State, start_state};
-ghost use Rattle.sim_safe.specs.Path.{Moves};
+ghost use Rattle.sim_safe.specs.Path.{Moves, KeepsZero};
+ghost use Rattle.ecoff_load.specs.declared.image.Image.{Image};
 ghost use Rattle.sim_safe.specs.Step.{step_of, outcome_of, Stays, built_of, sign_extended, writes_by, write_of, written, record_at, after, exit_code};
 
 use crate::record::{CallKind, CallNote, Cause, CommitRecord, Stepped};
@@ -230,4 +231,10 @@ impl Arch {
 /// same text, and only from an instruction that is whole in it.
 pub fn steps_lead_on()
     ensures { (s : State) → Moves s (step_of s) }
+{}
+
+/// Register 0 is 0 at the start and stays 0 over each step.
+pub fn register_0_is_0()
+    ensures start { (image : Image) → slice_index (start_state image).regs 0 ≡ 0 }
+    ensures step { (s : State) → KeepsZero s (step_of s) }
 {}

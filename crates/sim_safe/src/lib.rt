@@ -12,6 +12,6 @@ mod record;
 #[cfg(test)]
 mod tests;
 
-pub use arch::{Arch, steps_lead_on};
+pub use arch::{Arch, register_0_is_0, steps_lead_on};
 pub use commit::commit_line;
 pub use record::{CallKind, CallNote, Cause, CommitRecord, Stepped};

@@ -1,7 +1,8 @@
 -- what the file will hold in the end, and how the run ends and in which state, stay the same
 use Rattle.std.proofs.Common.{◌≡◌, ◌+◌, ◌≤◌}
 use Rattle.ss_base.specs.Outside.{OthersStay}
-use Rattle.sim_main.specs.Run.{in_the_end, end_within, state_after}
+use Rattle.sim_main.specs.Run.{end_within, state_after}
+use Rattle.sim_main.specs.Writing.{in_the_end}
 use Rattle.sim_main.proofs.run.steps.Given as goal
 
 abbrev pub invariant-loop-left : goal.invariant-loop-left
