@@ -1,5 +1,5 @@
 -- What the functions of two words give, which operands they take, and when a branch is taken.
-use Rattle.std.specs.Prelude.{ℕ, ◌+◌, ◌-◌, ◌*◌, ◌/◌, ◌%◌, ◌^◌, Bool, true, false, not, ◌==◌, ℤ, pos, ◌+ℤ◌, ◌-ℤ◌, ◌*ℤ◌, nat_lt, int_lt, int_le, int_div, int_rem, bit_and, bit_or, bit_xor, if◌then◌else◌}
+use Rattle.std.specs.Prelude.{ℕ, ◌*◌, ◌/◌, ◌%◌, ◌^◌, Bool, not, ◌==◌, ℤ, pos, ◌+ℤ◌, ◌-ℤ◌, ◌*ℤ◌, nat_lt, int_lt, int_le, int_rem, bit_and, bit_or, bit_xor, if◌then◌else◌}
 use Rattle.std.specs.Int.{cast_unsigned, w32, w64, bit_not, int_shr, int_wrapping_div}
 use Rattle.pisa_isa.specs.declared.instr.Instr.{Instr}
 use Rattle.pisa_step.specs.declared.action.Alu.{Alu}

@@ -7,10 +7,6 @@ use Rattle.pisa_step.specs.declared.action.Action.{Action}
 use Rattle.pisa_step.specs.declared.action.Action.TheVariants as action
 use Rattle.pisa_step.specs.declared.action.Link.{Link}
 use Rattle.pisa_step.specs.declared.action.Link.TheVariants as link
-use Rattle.pisa_step.specs.declared.action.Condition.{Condition}
-use Rattle.pisa_step.specs.declared.action.Alu.{Alu}
-use Rattle.pisa_step.specs.declared.action.Exact.{Exact}
-use Rattle.pisa_step.specs.declared.action.Form.{Form}
 use Rattle.pisa_step.specs.declared.action.Sign.{Sign}
 use Rattle.pisa_step.specs.declared.action.Half.{Half}
 use Rattle.pisa_step.specs.declared.action.Half.TheVariants as half

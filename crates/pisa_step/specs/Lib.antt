@@ -4,3 +4,4 @@ pub mod Actions
 pub mod Arithmetic
 pub mod Memory
 pub mod Effect
+pub mod Proper

@@ -1,5 +1,5 @@
 -- Words of 32 bits as numbers below 2^32, and as two's complement values.
-use Rattle.std.specs.Prelude.{ℕ, ◌+◌, ◌-◌, ◌*◌, ◌/◌, ◌%◌, ◌^◌, Bool, ℤ, pos, negsuc, nat_lt}
+use Rattle.std.specs.Prelude.{ℕ, ◌+◌, ◌-◌, ◌*◌, ◌%◌, ◌^◌, Bool, ℤ, pos, negsuc, nat_lt}
 use Rattle.std.specs.Int.{cast_signed, cast_unsigned, w8, w16, w32}
 
 -- sum, difference and product, modulo 2^32

@@ -1,5 +1,6 @@
 //! The effect of an instruction, class by class.
-ghost use Rattle.std.specs.Prelude.{◌≡◌, ◌≢◌, ◌+◌, ◌-◌, ◌%◌, ◌<◌, ◌≤◌, ◌^◌, length};
+ghost use Rattle.std.specs.Prelude.{◌≡◌, ◌≢◌, ◌+◌, ◌-◌, ◌%◌, ◌<◌, ◌≤◌, ◌^◌, length, IfOk};
+ghost use Rattle.pisa_step.specs.Proper.{IsProper};
 ghost use Rattle.pisa_isa.specs.Coding.{IsWellFormed};
 ghost use Rattle.pisa_step.specs.Arithmetic.{first_of, second_of, target_of, exact_of, alu_of, is_taken};
 ghost use Rattle.pisa_step.specs.Memory.{address_of};
@@ -23,7 +24,8 @@ use pisa_isa::{Instr, Op, number};
 pub fn effect<M: Machine>(m: &M, i: &Instr, pc: u32, text: TextRange) -> Result<Changes, Cause>
     requires no_call { i.now.op ≢ Op.Syscall }
     requires well_formed { IsWellFormed i.now }
-    ensures { result ≡ effect_of (M.reads m.now) i.now pc text }
+    ensures value { result ≡ effect_of (M.reads m.now) i.now pc text }
+    ensures proper { IfOk result (IsProper text) }
 {
     outcome(Action::of(i.op), m, i, pc, text)
 }
@@ -383,10 +385,11 @@ fn store<M: Machine>(
     ensures { result ≡ store_at kind (M.reads m.now) i.now pc text (address_of address (M.reads m.now) i.now) }
 {
     let a = address.of(m, i);
+    let bytes = kind.bytes(m, i.rt);
     if a % kind.size() != 0 {
         return Err(Cause::Misaligned { addr: a });
     }
-    put(text, pc, a, a, kind.bytes(m, i.rt))
+    put(text, pc, a, a, bytes)
 }
 
 /// The part of a register from one of its ends into memory.

@@ -1,4 +1,10 @@
 //! What each integer instruction of PISA does, over any machine and in both byte orders.
+//!
+//! A machine is whatever reads and writes registers and memory under the laws of `Machine`. The
+//! crate promises that `effect` answers exactly what the table of operations says, an instruction's
+//! changes or the first cause for which it stops, and leaves the machine as it is; that the changes
+//! can be made and write no byte of text; and that `apply` makes them and changes nothing else. No
+//! call takes memory.
 #![tactic(auto)]
 
 mod action;
@@ -7,6 +13,8 @@ mod changes;
 mod effects;
 mod machine;
 mod memory;
+#[cfg(test)]
+mod tests;
 mod words;
 mod writes;
 
