@@ -132,8 +132,9 @@ fn jump_register<M: Machine>(m: &M, i: &Instr, pc: u32, link: Link) -> Changes
     requires { AreRegisters i.now }
     ensures { result ≡ jumps pc ((M.reads m.now).regs i.now.rs) (linked link i.now.rd pc) }
 {
+    let next = m.reg(i.rs);
     Changes {
-        next: m.reg(i.rs),
+        next,
         taken: true,
         regs: link_register(link, i.rd, pc),
         ..Changes::after(pc)
