@@ -1,5 +1,5 @@
 -- Laws of the coding.
-use Rattle.std.proofs.Common.{◌≡◌, ◌+◌, ◌*◌, ◌/◌, ◌%◌, ◌^◌, ◌≤◌, ◌<◌, ◌&&◌, ℕ, Bool, true, false, Option, Some, None, Result, Ok, Err, nat_le, if◌then◌else◌, refl, sym, ap, subst, arith, ◌∙◌}
+use Rattle.std.proofs.Common.{◌≡◌, ◌+◌, ◌*◌, ◌^◌, ◌≤◌, ◌<◌, ℕ, Bool, true, false, Option, Some, None, Err, nat_le, refl, sym, ap, subst, arith, ◌∙◌}
 use Rattle.std.proofs.lemmas.Bool.Decides.{nat_tests}
 use Rattle.pisa_isa.specs.declared.instr.Op.{Op}
 use Rattle.pisa_isa.specs.declared.instr.Instr.{Instr}
@@ -87,7 +87,8 @@ holds _ top rs rt rd shamt imm target h0 h1 h2 h3 h4 h5 h6 = record {
 }
 
 -- an instruction is coded by its number and its second word
-pub word_codes : (i : Instr) (first : ℕ) → IsWellFormed i → first ≡ number_of i.op → Codes first (second_word i) i
+pub word_codes : (i : Instr) (first : ℕ) → IsWellFormed i → first ≡ number_of i.op
+    → Codes first (second_word i) i
 word_codes i first h n =
     let top = last_rt_bound (takes_pair (row_of i.op).kind) in
     let w = holds (row_of i.op).operands (highest_rt i.op) i.rs i.rt i.rd i.shamt i.imm i.target top h.rs h.rt h.rd h.shamt h.imm h.target in
@@ -106,11 +107,13 @@ word_codes i first h n =
 pub instr_codes : (first second : ℕ) (i : Instr) → Codes first second i → i ≡ instr_of i.op second
 instr_codes first second i h = rw (← h.rs, ← h.rt, ← h.rd, ← h.shamt, ← h.imm, ← h.target) refl
 
-checked_ok : (i : Instr) → i.rs ≤ 31 → i.rt ≤ highest_rt i.op → i.rd ≤ 31 → i.shamt ≤ 31 → checked i ≡ Some i
+checked_ok : (i : Instr) → i.rs ≤ 31 → i.rt ≤ highest_rt i.op → i.rd ≤ 31 → i.shamt ≤ 31
+    → checked i ≡ Some i
 checked_ok i rs rt rd shamt = grind (arith, nat_tests)
 
 -- what is coded is decoded
-pub codes_decoded : (first second : ℕ) (i : Instr) → Codes first second i → decoded first second ≡ Some i
+pub codes_decoded : (first second : ℕ) (i : Instr) → Codes first second i
+    → decoded first second ≡ Some i
 codes_decoded first second i h =
     let b = bounds i h.well_formed in
     let same = instr_codes first second i h in
@@ -130,12 +133,15 @@ field_below : (used : Bool) (most field : ℕ) → field ≤ most → AtMost use
 field_below true most field h = h
 field_below false most field h = refl
 
-field_most : (used : Bool) (most field : ℕ) → field_of used field ≤ most → AtMost used most (field_of used field)
+field_most : (used : Bool) (most field : ℕ) → field_of used field ≤ most
+    → AtMost used most (field_of used field)
 field_most true most field h = h
 field_most false most field h = refl
 
 -- an operation whose fields are in range is coded
-pub range_codes : (first second : ℕ) (o : Op) → number_of o ≡ opcode_of first → HasRegisters (instr_of o second) → (instr_of o second).shamt ≤ 31 → Codes first second (instr_of o second)
+pub range_codes : (first second : ℕ) (o : Op) → number_of o ≡ opcode_of first
+    → HasRegisters (instr_of o second) → (instr_of o second).shamt ≤ 31
+    → Codes first second (instr_of o second)
 range_codes first second o number registers shamt = record {
   number = number;
   rs = refl;
@@ -154,22 +160,27 @@ range_codes first second o number registers shamt = record {
   };
 }
 
-decoded_step : (first second : ℕ) (i : Instr) (found : Option Op) → operation_of (opcode_of first) ≡ found → decoded_as found second ≡ Some i → Codes first second i
+decoded_step : (first second : ℕ) (i : Instr) (found : Option Op)
+    → operation_of (opcode_of first) ≡ found → decoded_as found second ≡ Some i
+    → Codes first second i
 decoded_step first second i None is h = cc
 decoded_step first second i (Some o) is h =
     let p = passes (instr_of o second) i h in
     subst (Codes first second) (sym p.same) (range_codes first second o (operation_has (opcode_of first) o is) p.registers p.shamt)
 
 -- what is decoded is coded
-pub decoded_codes : (first second : ℕ) (i : Instr) → decoded first second ≡ Some i → Codes first second i
+pub decoded_codes : (first second : ℕ) (i : Instr) → decoded first second ≡ Some i
+    → Codes first second i
 decoded_codes first second i h = decoded_step first second i (operation_of (opcode_of first)) refl h
 
 -- what is decoded is well formed
-pub decoded_well_formed : (first second : ℕ) (i : Instr) → decoded first second ≡ Some i → IsWellFormed i
+pub decoded_well_formed : (first second : ℕ) (i : Instr) → decoded first second ≡ Some i
+    → IsWellFormed i
 decoded_well_formed first second i h = (decoded_codes first second i h).well_formed
 
 -- what the operation of the opcode would be is what is coded, if anything
-same_op : (first second : ℕ) (o : Op) (i : Instr) → number_of o ≡ opcode_of first → Codes first second i → i ≡ instr_of o second
+same_op : (first second : ℕ) (o : Op) (i : Instr) → number_of o ≡ opcode_of first
+    → Codes first second i → i ≡ instr_of o second
 same_op first second o i number h =
     let here : operation_of (opcode_of first) ≡ Some o = rw (← number) (operation_number o) in
     let there : operation_of (opcode_of first) ≡ Some i.op = rw (← h.number) (operation_number i.op) in
@@ -177,7 +188,8 @@ same_op first second o i number h =
     instr_codes first second i h ∙ ap (λ p. instr_of p second) same
 
 -- where there is a reason, nothing is coded
-pub reason_codes : (first second : ℕ) (w : IllegalWhy) (i : Instr) → Reason first second w → Codes first second i → ⊥
+pub reason_codes : (first second : ℕ) (w : IllegalWhy) (i : Instr) → Reason first second w
+    → Codes first second i → ⊥
 reason_codes first second why.Opcode i r h = r i.op h.number
 reason_codes first second why.Register i r h =
     let b = bounds i h.well_formed in
@@ -189,7 +201,8 @@ reason_codes first second why.Shift i r h =
     omega (arith, r.3, b.shamt, same)
 
 -- where there is a reason, nothing is decoded
-pub reason_decoded : (first second : ℕ) (w : IllegalWhy) → Reason first second w → decoded first second ≡ None
+pub reason_decoded : (first second : ℕ) (w : IllegalWhy) → Reason first second w
+    → decoded first second ≡ None
 reason_decoded first second w r = nothing (decoded first second) (λ i h. reason_codes first second w i r (decoded_codes first second i h))
 
 -- no operation has an opcode for which none is found
@@ -199,12 +212,15 @@ operation_none n none o number =
     cc
 
 -- an instruction that was made for the operation of the opcode, and whose ranges were found right
-pub made_codes : (first second : ℕ) (o : Op) (i : Instr) → operation_of (opcode_of first) ≡ Some o → i ≡ instr_of o second → HasRegisters i → i.shamt ≤ 31 → Codes first second i
+pub made_codes : (first second : ℕ) (o : Op) (i : Instr) → operation_of (opcode_of first) ≡ Some o
+    → i ≡ instr_of o second → HasRegisters i → i.shamt ≤ 31 → Codes first second i
 made_codes first second o i found made registers shamt =
     subst (Codes first second) (sym made) (range_codes first second o (operation_has (opcode_of first) o found) (subst HasRegisters made registers) (subst (λ (j : Instr). j.shamt ≤ 31) made shamt))
 
 -- and one whose ranges were found wrong
-pub made_reason : (first second : ℕ) (o : Op) (i : Instr) (w : IllegalWhy) → operation_of (opcode_of first) ≡ Some o → i ≡ instr_of o second → Finds i (Err w) → Reason first second w
+pub made_reason : (first second : ℕ) (o : Op) (i : Instr) (w : IllegalWhy)
+    → operation_of (opcode_of first) ≡ Some o → i ≡ instr_of o second → Finds i (Err w)
+    → Reason first second w
 made_reason first second o i why.Opcode found made h = absurd h
 made_reason first second o i why.Register found made h =
     (o, operation_has (opcode_of first) o found, λ registers. h (subst HasRegisters (sym made) registers))
@@ -212,17 +228,21 @@ made_reason first second o i why.Shift found made h =
     (o, operation_has (opcode_of first) o found, subst HasRegisters made h.0, subst (λ (j : Instr). 31 < j.shamt) made h.1)
 
 -- the operation of a number that a first word has as its opcode
-pub found_at : (first n : ℕ) (found answer : Option Op) → n ≡ opcode_of first → found ≡ operation_of n → found ≡ answer → operation_of (opcode_of first) ≡ answer
+pub found_at : (first n : ℕ) (found answer : Option Op) → n ≡ opcode_of first
+    → found ≡ operation_of n → found ≡ answer → operation_of (opcode_of first) ≡ answer
 found_at first n found answer number is same = ap operation_of (sym number) ∙ sym is ∙ same
 
 -- two words code at most one instruction
-pub codes_unique : (first second : ℕ) (i j : Instr) → Codes first second i → Codes first second j → i ≡ j
+pub codes_unique : (first second : ℕ) (i j : Instr) → Codes first second i → Codes first second j
+    → i ≡ j
 codes_unique first second i j h k =
     let p = codes_decoded first second i h in
     let q = codes_decoded first second j k in
     cc
 
-first_fault : (i : Instr) → checked i ≡ None → (rs rt rd shamt : Bool) → nat_le i.rs 31 ≡ rs → nat_le i.rt (highest_rt i.op) ≡ rt → nat_le i.rd 31 ≡ rd → nat_le i.shamt 31 ≡ shamt → (w : IllegalWhy) × Finds i (Err w)
+first_fault : (i : Instr) → checked i ≡ None → (rs rt rd shamt : Bool) → nat_le i.rs 31 ≡ rs
+    → nat_le i.rt (highest_rt i.op) ≡ rt → nat_le i.rd 31 ≡ rd → nat_le i.shamt 31 ≡ shamt
+    → (w : IllegalWhy) × Finds i (Err w)
 first_fault i h false rt rd shamt a b c d = (why.Register, λ r. absurd (grind (arith, nat_tests, r.rs)))
 first_fault i h true false rd shamt a b c d = (why.Register, λ r. absurd (grind (arith, nat_tests, r.rt)))
 first_fault i h true true false shamt a b c d = (why.Register, λ r. absurd (grind (arith, nat_tests, r.rd)))
@@ -234,14 +254,16 @@ first_fault i h true true true true a b c d = absurd (grind (arith, nat_tests))
 unfit_reason : (i : Instr) → checked i ≡ None → (w : IllegalWhy) × Finds i (Err w)
 unfit_reason i h = first_fault i h (nat_le i.rs 31) (nat_le i.rt (highest_rt i.op)) (nat_le i.rd 31) (nat_le i.shamt 31) refl refl refl refl
 
-reason_step : (first second : ℕ) (found : Option Op) → operation_of (opcode_of first) ≡ found → decoded_as found second ≡ None → (w : IllegalWhy) × Reason first second w
+reason_step : (first second : ℕ) (found : Option Op) → operation_of (opcode_of first) ≡ found
+    → decoded_as found second ≡ None → (w : IllegalWhy) × Reason first second w
 reason_step first second None is h = (why.Opcode, operation_none (opcode_of first) is)
 reason_step first second (Some o) is h =
     let w = unfit_reason (instr_of o second) h in
     (w.0, made_reason first second o (instr_of o second) w.0 is refl w.1)
 
 -- where nothing is decoded there is a reason
-pub reason_exists : (first second : ℕ) → decoded first second ≡ None → (w : IllegalWhy) × Reason first second w
+pub reason_exists : (first second : ℕ) → decoded first second ≡ None
+    → (w : IllegalWhy) × Reason first second w
 reason_exists first second h = reason_step first second (operation_of (opcode_of first)) refl h
 
 same_number : (n : ℕ) (o p : Op) → number_of o ≡ n → number_of p ≡ n → o ≡ p
@@ -251,7 +273,8 @@ same_number n o p is also =
     cc
 
 -- at most one reason holds
-pub reason_unique : (first second : ℕ) (w v : IllegalWhy) → Reason first second w → Reason first second v → w ≡ v
+pub reason_unique : (first second : ℕ) (w v : IllegalWhy) → Reason first second w
+    → Reason first second v → w ≡ v
 reason_unique first second why.Opcode why.Opcode r s = refl
 reason_unique first second why.Opcode why.Register r s = absurd (r s.0 s.1)
 reason_unique first second why.Opcode why.Shift r s = absurd (r s.0 s.1)
@@ -271,6 +294,7 @@ least form.Empty word = omega arith
 least _ word = omega arith
 
 -- the words of an instruction are the least that code it
-pub codes_least : (first second : ℕ) (i : Instr) → Codes first second i → (number_of i.op ≤ first) × (second_word i ≤ second)
+pub codes_least : (first second : ℕ) (i : Instr) → Codes first second i
+    → (number_of i.op ≤ first) × (second_word i ≤ second)
 codes_least first second i h =
     (omega (arith, h.number), rw (h.rs, h.rt, h.rd, h.shamt, h.imm, h.target) (least (row_of i.op).operands second))

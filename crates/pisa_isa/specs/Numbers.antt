@@ -1,5 +1,5 @@
 -- Operations and their numbers.
-use Rattle.std.proofs.Common.{◌≡◌, ◌≢◌, ◌<◌, ◌≤◌, ℕ, List, [], ◌∷◌, find, cond, subst, map, get_or, Bool, true, false, Option, Some, None, nat_eq, refl, sym, ap, arith, ◌∙◌, lit<, lit≤, length}
+use Rattle.std.proofs.Common.{◌≡◌, ◌<◌, ◌≤◌, ℕ, List, [], ◌∷◌, find, cond, subst, Bool, true, false, Option, Some, None, nat_eq, refl, arith, lit<, lit≤, length}
 use Rattle.std.proofs.lemmas.Bool.{eqb-true}
 use Rattle.pisa_isa.specs.declared.instr.Op.{Op}
 use Rattle.pisa_isa.specs.declared.instr.Op.TheVariants as op
@@ -12,7 +12,8 @@ nothing None none = refl
 nothing (Some x) none = absurd (none x refl)
 
 -- what a search finds passes its test
-found_step : {A : Type 0} (p : A → Bool) (y x : A) (rest : Option A) (passes : Bool) → p y ≡ passes → cond passes (Some y) rest ≡ Some x → (rest ≡ Some x → p x ≡ true) → p x ≡ true
+found_step : {A : Type 0} (p : A → Bool) (y x : A) (rest : Option A) (passes : Bool) → p y ≡ passes
+    → cond passes (Some y) rest ≡ Some x → (rest ≡ Some x → p x ≡ true) → p x ≡ true
 found_step p y x rest true is found later = let same : y ≡ x = cc in subst (λ z. p z ≡ true) same is
 found_step p y x rest false is found later = later found
 

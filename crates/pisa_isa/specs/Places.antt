@@ -1,6 +1,5 @@
 -- The places that an instruction reads and writes.
-use Rattle.std.specs.Prelude.{◌+◌, ◌<◌, ◌&&◌, ℕ, List, [], ◌∷◌, ◌++◌, filter, not, nat_eq, if◌then◌else◌, Bool, true, false}
-use Rattle.pisa_isa.specs.declared.instr.Op.{Op}
+use Rattle.std.specs.Prelude.{◌+◌, ◌<◌, ◌&&◌, ℕ, List, [], ◌∷◌, filter, not, nat_eq, if◌then◌else◌, Bool, true, false}
 use Rattle.pisa_isa.specs.declared.instr.Instr.{Instr}
 use Rattle.pisa_isa.specs.declared.table.Kind.{Kind}
 use Rattle.pisa_isa.specs.declared.table.Kind.TheVariants as kind

@@ -34,7 +34,7 @@ const NONE: Fields = Fields {
 
 impl Operands {
     /// The fields that stand among the operands.
-    pub fn fields(self) -> Fields
+    pub(crate) fn fields(self) -> Fields
         ensures { result ≡ fields_of self }
     {
         let rs = true;

@@ -27,3 +27,6 @@ pub use laws::{
 };
 pub use places::{Place, reads_main, reads_second, writes};
 pub use table::Operands;
+
+#[cfg(test)]
+mod tests;

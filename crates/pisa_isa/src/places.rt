@@ -4,6 +4,7 @@ ghost use Rattle.arrayvec.specs.ArrayVec.{array_vec_len};
 ghost use Rattle.pisa_isa.specs.Coding.{IsWellFormed};
 ghost use Rattle.pisa_isa.specs.Fields.{uses};
 ghost use Rattle.pisa_isa.specs.Places.{destination, late_source, is_rt, is_rd, members, registers, sources, listed_register, reads_main_of, reads_second_of, writes_of};
+ghost use Rattle.pisa_isa.specs.declared.places.Place.TheVariants as variants;
 
 use crate::fields::{Fields, used_or_zero};
 use crate::instr::Instr;
@@ -22,6 +23,8 @@ pub enum Place {
 }
 
 impl Default for Place {
+    ghost is_default = { λ p. p ≡ variants.Reg 0 };
+
     /// Register 0, which fills the unused cells of an `ArrayVec` and is never read there.
     fn default() -> Place {
         Place::Reg(0)

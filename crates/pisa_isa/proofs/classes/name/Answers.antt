@@ -1,4 +1,4 @@
-use Rattle.std.proofs.Common.{rules, ap, length, arith, lit<}
+use Rattle.std.proofs.Common.{ap, length, arith, lit<}
 use Rattle.pisa_isa.specs.Numbers.{name_fits}
 use Rattle.pisa_isa.proofs.classes.name.Goals as goal
 

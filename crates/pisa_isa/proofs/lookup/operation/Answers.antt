@@ -1,4 +1,4 @@
-use Rattle.std.proofs.Common.{◌≡◌, ◌∙◌, ap, sym, get_or, None}
+use Rattle.std.proofs.Common.{◌∙◌, ap, sym, get_or, None}
 use Rattle.pisa_isa.specs.Numbers.{operation_above}
 use Rattle.pisa_isa.proofs.LookupTable.{table_at}
 use Rattle.pisa_isa.proofs.lookup.operation.Goals as goal
