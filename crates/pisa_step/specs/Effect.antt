@@ -1,5 +1,5 @@
 -- What an instruction does: its changes, or the cause for which it stops.
-use Rattle.std.specs.Prelude.{◌≡◌, ◌<◌, ℕ, ℤ, ◌+◌, ◌-◌, ◌*◌, ◌/◌, ◌%◌, ◌^◌, Bool, true, false, ◌==◌, List, [], ◌∷◌, ◌++◌, length, Option, Some, None, Result, Ok, Err, nat_eq, bit_and, bit_or, unwrap_or, if◌then◌else◌}
+use Rattle.std.specs.Prelude.{◌≡◌, ◌<◌, ℕ, ℤ, ◌+◌, ◌*◌, ◌/◌, ◌%◌, ◌^◌, Bool, true, false, ◌==◌, List, [], ◌∷◌, ◌++◌, length, Option, Some, None, Result, Ok, Err, nat_eq, bit_and, bit_or, unwrap_or, if◌then◌else◌}
 use Rattle.arrayvec.specs.ArrayVec.{ArrayVec}
 use Rattle.pisa_isa.specs.declared.instr.Instr.{Instr}
 use Rattle.pisa_isa.specs.Coding.{number_of}
@@ -24,7 +24,7 @@ use Rattle.pisa_step.specs.Reader.{Reader, regs_after, with_bytes}
 use Rattle.pisa_step.specs.Words.{word_sum, word_product, word_of, is_in_word, half_extended}
 use Rattle.pisa_step.specs.Actions.{action_of}
 use Rattle.pisa_step.specs.Arithmetic.{alu_of, exact_of, product_of, quotient_of, remainder_of, first_of, second_of, target_of, is_taken}
-use Rattle.pisa_step.specs.Memory.{address_of, loaded_of, loaded_size, stored_of, stored_size, word_at, part_loaded, part_stored, part_start, meets}
+use Rattle.pisa_step.specs.Memory.{address_of, loaded_of, loaded_size, stored_of, stored_size, word_at, part_loaded_at, part_stored, part_start, meets}
 
 abbrev pub vec_of : {A : Type 0} → List A → ArrayVec A
 vec_of xs = record { items = xs }
@@ -106,7 +106,7 @@ load_pair_at s i pc a =
 
 abbrev pub load_part_at : Side → Reader → Instr → ℕ → ℕ → Changes
 load_part_at side s i pc a =
-    loads pc a (written i.rt (part_loaded side s.big (a % 4) (word_at s (a - a % 4)) (s.regs i.rt)))
+    loads pc a (written i.rt (part_loaded_at side s a (s.regs i.rt)))
 
 abbrev pub store_at : Stored → Reader → Instr → ℕ → TextRange → ℕ → Result Changes Cause
 store_at kind s i pc text a = aligned (stored_size kind) a (stores text pc a a (stored_of kind s i.rt))

@@ -90,6 +90,10 @@ part_loaded side.Right false place word old = over_high place word old
 part_loaded side.Left true place word old = over_low place word old
 part_loaded side.Right true place word old = over_high (3 - place) word old
 
+-- what a part load at an address gives, of the word that the address lies in
+abbrev pub part_loaded_at : Side → Reader → ℕ → ℕ → ℕ
+part_loaded_at side s a old = part_loaded side s.big (a % 4) (word_at s (a - a % 4)) old
+
 -- what a part store writes: one end of the register's bytes, in the machine's byte order
 abbrev pub part_stored : Side → Bool → ℕ → ℕ → List ℕ
 part_stored side.Left false place value = drop (3 - place) (to_le_bytes w32 value)

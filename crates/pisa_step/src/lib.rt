@@ -11,6 +11,7 @@ mod action;
 mod cause;
 mod changes;
 mod effects;
+mod laws;
 mod machine;
 mod memory;
 #[cfg(test)]
@@ -21,5 +22,6 @@ mod writes;
 pub use cause::{Cause, Field};
 pub use changes::{Changes, MemWrite, TextRange};
 pub use effects::effect;
+pub use laws::part_loads_make_words;
 pub use machine::Machine;
 pub use writes::apply;
