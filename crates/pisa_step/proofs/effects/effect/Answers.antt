@@ -1,0 +1,33 @@
+use Rattle.std.proofs.Common.{◌∙◌, ap, sym, subst, arith, IfOk}
+use Rattle.pisa_isa.specs.CodingLaws.{bounds}
+use Rattle.pisa_step.specs.Effect.{AreRegisters, TakesPair, effect_of, outcome_of}
+use Rattle.pisa_step.specs.Proper.{IsProper}
+use Rattle.pisa_isa.specs.declared.instr.Instr.{Instr}
+use Rattle.pisa_isa.specs.Coding.{IsWellFormed}
+use Rattle.pisa_step.proofs.Pairs.{pair_below}
+use Rattle.pisa_step.proofs.Properness.{outcome_proper}
+use Rattle.pisa_step.proofs.effects.effect.Goals as goal
+
+registers : (i : Instr) → IsWellFormed i → AreRegisters i
+registers i formed = let b = bounds i formed in record {
+  rs = omega (arith, b.rs);
+  rt = omega (arith, b.rt);
+  rd = omega (arith, b.rd);
+}
+
+pub outcome-requires-clause-pair : goal.outcome-requires-clause-pair
+outcome-requires-clause-pair g c =
+    λ takes. pair_below c.args.i.now c.requires.well_formed (subst TakesPair c.of.ensures takes)
+
+pub returns-clause-value : goal.returns-clause-value
+unfolding effect_of
+returns-clause-value g c =
+    c.outcome.ensures
+    ∙ ap (λ a. outcome_of a (g.M.Machine.reads c.args.m.now) c.args.i.now c.args.pc c.args.text) c.of.ensures
+
+pub returns-clause-proper : goal.returns-clause-proper
+returns-clause-proper g c =
+    subst (λ r. IfOk r (IsProper c.args.text)) (sym c.outcome.ensures)
+    (outcome_proper c.of.result (g.M.Machine.reads c.args.m.now) c.args.i.now c.args.pc c.args.text
+    (registers c.args.i.now c.requires.well_formed)
+    (λ takes. pair_below c.args.i.now c.requires.well_formed (subst TakesPair c.of.ensures takes)))
