@@ -1,11 +1,11 @@
 -- The newest updates of different pcs, and what a set of the buffer keeps of them.
 use Rattle.std.proofs.Common.{◌≡◌, ◌≢◌, ℕ, zero, suc, ◌+◌, ◌<◌, Bool, true, false, cond, not, List, [], ◌∷◌, ◌++◌, length, get_or, set, take, map, replicate, refl, sym, ◌∙◌, ap, subst, arith, eqb, length-set, get_or-set_same, get_or-set_other}
 use Rattle.std.specs.Prelude.{filter, find, option_map, Some, None, All, Contains}
-use Rattle.std.proofs.lemmas.List.{take-take, length-map, length-replicate, get_or-replicate, get_or-map, map-set, map_push, replicate_more}
+use Rattle.std.proofs.lemmas.List.{take-take, take-map, length-map, length-replicate, get_or-replicate, get_or-map, map-set, map_push, replicate_more}
 use Rattle.std.proofs.lemmas.Bool.{eqb-true, eqb-false, eq-eqb, ne_eqb}
 use Rattle.bpred_tables.specs.Updates.{place_in}
-use Rattle.bpred_tables.specs.Buffer.{latest, of_set, entries, target_of, Buffer, BufferStands}
-use Rattle.bpred_tables.specs.declared.target_buffer.Entry.{Entry}
+use Rattle.bpred_tables.specs.Buffer.{Entry, latest, of_set, entries, target_of, Buffer, BufferStands}
+use Rattle.bpred_tables.specs.declared.target_buffer.Slot.{Slot}
 
 abbrev other : ℕ → Entry → Bool
 other pc e = not (eqb e.pc pc)
@@ -188,6 +188,38 @@ stands_empty sets n ways e = record { each = each }
         let below : k < n = omega (arith, ap length e, length-replicate n empty) in
         ap (λ l. get_or l k []) e ∙ get_or-replicate n k [] [] below ∙ sym (take-nil ways)
 
+-- ---- what the code's sets hold, as the buffer's view shows it
+
+abbrev pub shown : Slot → Entry
+shown e = record { pc = e.pc; target = e.target }
+
+shown_others : (pc : ℕ) (es : List Slot) → map shown (filter (λ e. not (eqb e.pc pc)) es) ≡ filter (other pc) (map shown es)
+shown_others pc [] = refl
+shown_others pc (e ∷ es) = by_case (eqb e.pc pc) (shown_others pc es)
+  where
+    by_case : (b : Bool) → map shown (filter (λ x. not (eqb x.pc pc)) es) ≡ filter (other pc) (map shown es)
+        → map shown (cond (not b) (e ∷ filter (λ x. not (eqb x.pc pc)) es) (filter (λ x. not (eqb x.pc pc)) es))
+        ≡ cond (not b) (shown e ∷ filter (other pc) (map shown es)) (filter (other pc) (map shown es))
+    by_case true rest = rest
+    by_case false rest = ap (λ l. shown e ∷ l) rest
+
+pub shown_entered : (ways : ℕ) (u : Slot) (es : List Slot)
+    → map shown (take ways (u ∷ filter (λ e. not (eqb e.pc u.pc)) es)) ≡ take ways (shown u ∷ filter (other u.pc) (map shown es))
+shown_entered ways u es =
+    sym (take-map shown ways (u ∷ filter (λ e. not (eqb e.pc u.pc)) es)) ∙ ap (λ l. take ways (shown u ∷ l)) (shown_others u.pc es)
+
+pub shown_target : (pc : ℕ) (es : List Slot)
+    → option_map (λ e. e.target) (find (λ e. eqb e.pc pc) es) ≡ option_map (λ e. e.target) (find (λ e. eqb e.pc pc) (map shown es))
+shown_target pc [] = refl
+shown_target pc (e ∷ es) = by_case (eqb e.pc pc) (shown_target pc es)
+  where
+    by_case : (b : Bool)
+        → option_map (λ x. x.target) (find (λ x. eqb x.pc pc) es) ≡ option_map (λ x. x.target) (find (λ x. eqb x.pc pc) (map shown es))
+        → option_map (λ x. x.target) (cond b (Some e) (find (λ x. eqb x.pc pc) es))
+        ≡ option_map (λ x. x.target) (cond b (Some (shown e)) (find (λ x. eqb x.pc pc) (map shown es)))
+    by_case true rest = refl
+    by_case false rest = rest
+
 -- the same where f shows the entries of a set
 module _ {X : Type 0} (f : X → List Entry) where
   pub length_empty : (xs : List X) (n : ℕ) → map f xs ≡ replicate n [] → length xs ≡ n
@@ -210,3 +242,15 @@ module _ {X : Type 0} (f : X → List Entry) where
       let left : map f (set xs at x) ≡ set (map f xs) at (take ways (u ∷ filter (other u.pc) (get_or (map f xs) at []))) =
       map-set f xs at x ∙ ap (λ l. set (map f xs) at l) (now ∙ ap (λ l. take ways (u ∷ filter (other u.pc) l)) was) in
       subst (λ l. BufferStands (record { sets = l; ways = ways }) (u ∷ older)) (sym left) step
+
+  pub buffer_found : (xs : List X) (ways at pc : ℕ) (y : X) (updates : List Entry)
+      → at ≡ place_in (length xs) pc → at < length xs → y ≡ get_or xs at y
+      → BufferStands (record { sets = map f xs; ways = ways }) updates
+      → option_map (λ e. e.target) (find (λ e. eqb e.pc pc) (f y)) ≡ target_of (length (map f xs)) ways updates pc
+  buffer_found xs ways at pc y updates here within read stands =
+      let long : length (map f xs) ≡ length xs = length-map xs f in
+      let was : f y ≡ get_or (map f xs) at [] = ap f read ∙ sym (get_or-map f xs at y [] within) in
+      let here' : at ≡ place_in (length (map f xs)) pc = rw long here in
+      let within' : at < length (map f xs) = rw long within in
+      let found = λ (es : List Entry). option_map (λ e. e.target) (find (λ e. eqb e.pc pc) es) in
+      ap found (was ∙ stands.each at within') ∙ ap (λ k. found (entries (length (map f xs)) ways k updates)) here'

@@ -1,7 +1,12 @@
 -- What the target buffer answers, as a function of all its updates.
 use Rattle.std.specs.Prelude.{◌≡◌, ℕ, ◌<◌, not, List, [], ◌∷◌, Option, length, slice_index_or, ◌==◌, take, filter, find, option_map}
 use Rattle.bpred_tables.specs.Updates.{place_in}
-use Rattle.bpred_tables.specs.declared.target_buffer.Entry.{Entry}
+
+-- a transfer of control: its pc and where it led. An update tells one, and a set holds some as its entries.
+-- In a list of updates the newest is first
+pub record Entry : Type 0 where
+  pub pc : ℕ
+  pub target : ℕ
 
 -- of each pc its newest update, the newest first
 abbrev pub latest : List Entry → List Entry

@@ -15,7 +15,8 @@ use std::marker::Model;
 fn judge(choosers: &mut Counters, at: usize, bimodal: bool, two_level: bool, taken: bool)
     requires { at < length choosers.old }
     ensures { choosers.new ≡ (if same bimodal two_level then choosers.old
-        else slice_set choosers.old at (counted (same two_level taken) (slice_index choosers.old at))) }
+        else slice_set choosers.old at
+        (counted (same two_level taken) (slice_index choosers.old at))) }
 {
     if bimodal != two_level {
         choosers.count(at, two_level == taken);

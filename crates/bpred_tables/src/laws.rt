@@ -1,9 +1,8 @@
 //! What follows from the definitions, each law as the contract of a function that does nothing.
 ghost use Rattle.std.specs.Prelude.{◌≡◌, ◌≢◌, ℕ, ◌+◌, ◌*◌, ◌%◌, ◌^◌, ◌<◌, ◌≤◌, Bool, List, ◌∷◌, length, slice_index, Some, None, All, AllPairs, Contains, ◌↔◌};
 ghost use Rattle.bpred_tables.specs.Updates.{Update, Levels, Pair, counter, says_taken, history, place_in, digit, bimodal, two_level, contests};
-ghost use Rattle.bpred_tables.specs.Buffer.{entries, target_of};
+ghost use Rattle.bpred_tables.specs.Buffer.{Entry, entries, target_of};
 ghost use Rattle.bpred_tables.specs.Stack.{Call, Push, Pop, SetTop, cell_after, popped, pushes, pops};
-ghost use Rattle.bpred_tables.specs.declared.target_buffer.Entry.{Entry};
 
 /// A counter stays within 0 to 3, whatever it counted.
 pub fn counters_saturate()

@@ -6,10 +6,10 @@ use ss_base::OutOfMemory;
 use std::alloc::Global;
 use std::marker::Model;
 
-/// A ring of cells, and which of them is the top.
+/// The addresses in a ring of cells, and the number of the top cell.
 #[derive(Debug, Drop)]
 pub struct Ras {
-    cells: Vec<u32>,
+    addresses: Vec<u32>,
     top: u32,
 }
 
@@ -19,33 +19,35 @@ impl Model for Ras {
 
     ghost Value = { Ring };
 
-    ghost view = { λ s. record { cells = s.cells.items; top = s.top } };
+    ghost view = { λ stack. record { cells = stack.addresses.items; top = stack.top } };
 
-    ghost invariant = { λ s. (s.top < length s.cells.items) × (length s.cells.items ≤ 1024) };
+    ghost invariant = { λ stack. (length stack.addresses.items ≤ 1024)
+        × (stack.top < length stack.addresses.items) };
 }
 
 impl Ras {
     /// A stack of `size` cells, all 0, with cell 0 as the top.
     pub fn new(alloc: Global, size: u32) -> Result<Ras, OutOfMemory>
-        requires least { 1 ≤ size }
-        requires most { size ≤ 1024 }
+        requires some { 1 ≤ size }
+        requires limit { size ≤ 1024 }
         ensures size { IfOk result (λ ras. length ras.cells ≡ size) }
         ensures start { IfOk result (λ ras. StackStands ras []) }
     {
         Ok(Ras {
-            cells: vec![in alloc; 0; size as usize]?,
+            addresses: vec![in alloc; 0; size as usize]?,
             top: 0,
         })
     }
 
-    /// The next cell becomes the top and holds `v`; the other cells stay.
-    pub fn push(&mut self, v: u32)
+    /// The next cell becomes the top and holds `address`; the other cells stay.
+    pub fn push(&mut self, address: u32)
         ensures size { length self.new.cells ≡ length self.old.cells }
         ensures pushed { (calls : List Call) → StackStands self.old calls
-            → StackStands self.new (Push v ∷ calls) }
+            → StackStands self.new (Push address ∷ calls) }
     {
-        self.top = (self.top + 1) % self.cells.len() as u32;
-        self.cells[self.top as usize] = v;
+        let count = self.addresses.len() as u32;
+        self.top = (self.top + 1) % count;
+        self.addresses[self.top as usize] = address;
     }
 
     /// What the top holds. The cell before it becomes the top; all cells stay.
@@ -56,10 +58,10 @@ impl Ras {
         ensures popped { (calls : List Call) → StackStands self.old calls
             → StackStands self.new (Pop ∷ calls) }
     {
-        let v = self.cells[self.top as usize];
-        let size = self.cells.len() as u32;
-        self.top = (self.top + size - 1) % size;
-        v
+        let address = self.addresses[self.top as usize];
+        let count = self.addresses.len() as u32;
+        self.top = (self.top + count - 1) % count;
+        address
     }
 
     /// The number of the top cell, below the size, for a later `set_top`.
@@ -72,12 +74,12 @@ impl Ras {
     }
 
     /// The cell of this number becomes the top; all cells stay.
-    pub fn set_top(&mut self, top: u32)
-        requires { top < length self.old.cells }
+    pub fn set_top(&mut self, cell: u32)
+        requires within { cell < length self.old.cells }
         ensures size { length self.new.cells ≡ length self.old.cells }
         ensures set { (calls : List Call) → StackStands self.old calls
-            → StackStands self.new (SetTop top ∷ calls) }
+            → StackStands self.new (SetTop cell ∷ calls) }
     {
-        self.top = top;
+        self.top = cell;
     }
 }

@@ -1,7 +1,6 @@
 //! The buffer of branch targets.
 ghost use Rattle.std.specs.Prelude.{◌≡◌, ◌<◌, ◌≤◌, not, List, [], ◌∷◌, length, take, filter, find, option_map, ◌==◌, IfOk};
-ghost use Rattle.bpred_tables.specs.Buffer.{BufferStands, target_of};
-ghost use Rattle.bpred_tables.specs.declared.target_buffer.Entry.{Entry};
+ghost use Rattle.bpred_tables.specs.Buffer.{Entry, BufferStands, target_of};
 
 use crate::counters::index_in;
 use arrayvec::ArrayVec;
@@ -9,15 +8,15 @@ use ss_base::OutOfMemory;
 use std::alloc::Global;
 use std::marker::Model;
 
-/// A transfer of control and where it led.
+/// What a place of a set holds: a transfer of control and where it led.
 #[derive(Clone, Copy, Debug, Default)]
-struct Entry {
+struct Slot {
     pc: u32,
     target: u32,
 }
 
 /// The entries of one set, the newest first.
-type Set = ArrayVec<Entry, 16>;
+type Set = ArrayVec<Slot, 16>;
 
 /// Takes out the entries of `pc`.
 fn take_out(set: &mut Set, pc: u32)
@@ -27,7 +26,7 @@ fn take_out(set: &mut Set, pc: u32)
 }
 
 /// Puts an entry at the front, in place of one of its pc, and drops what then lies beyond the ways.
-fn enter(set: &mut Set, ways: usize, entry: Entry)
+fn enter(set: &mut Set, ways: usize, entry: Slot)
     requires least { 1 ≤ ways }
     requires most { ways ≤ 16 }
     ensures { set.new.items
@@ -39,7 +38,7 @@ fn enter(set: &mut Set, ways: usize, entry: Entry)
 }
 
 /// The target that these entries hold for `pc`.
-fn find_target(entries: &[Entry], pc: u32) -> Option<u32>
+fn find_target(entries: &[Slot], pc: u32) -> Option<u32>
     ensures { result ≡ option_map (λ e. e.target) (find (λ e. e.pc == pc) entries.now) }
 {
     entries
@@ -61,7 +60,10 @@ impl Model for Btb {
 
     ghost Value = { Buffer };
 
-    ghost view = { λ b. record { sets = map (λ s. s.items) b.sets.items; ways = b.ways } };
+    ghost view = { λ b. record {
+      sets = map (λ s. map (λ e. record { pc = e.pc; target = e.target }) s.items) b.sets.items;
+      ways = b.ways;
+    } };
 
     ghost invariant = { λ b. (0 < length b.sets.items) × (1 ≤ b.ways) × (b.ways ≤ 16) };
 }
@@ -85,7 +87,8 @@ impl Btb {
         })
     }
 
-    /// The last target of the transfer at `pc`. `None` where no entry of it is held. Nothing changes.
+    /// The last target of the transfer at `pc`: `None` exactly where its set holds no entry of `pc`.
+    /// Nothing changes.
     pub fn target(&self, pc: u32) -> Option<u32>
         ensures { (updates : List Entry) → BufferStands self.now updates
             → result ≡ target_of (length self.now.sets) self.now.ways updates pc }
@@ -102,6 +105,6 @@ impl Btb {
             → BufferStands self.new (record { pc = pc; target = target } ∷ updates) }
     {
         let at = index_in(self.sets.len(), pc);
-        enter(&mut self.sets[at], self.ways, Entry { pc, target });
+        enter(&mut self.sets[at], self.ways, Slot { pc, target });
     }
 }

@@ -113,6 +113,21 @@ fn histories_choose_counters(rt: HostRuntime) -> Result<(), Fail> {
         &mut TwoLevel::new(rt.alloc(), 2, 16, 2, true)?,
         b"NNTTNNNNTNTNTTTNTTTNTTTN",
     );
+    plays_loop(
+        &rt,
+        &mut TwoLevel::new(rt.alloc(), 1, 9, 16, false)?,
+        b"NNNNNNNNTTTNNTTTTNNNNTTT",
+    );
+
+    // Modulo 7, the last instruction of memory, whose number times 2^16 passes 32 bits, adds 6 to the
+    // history. The histories before these are 0, 1, 3 and 7: the counters are 0, 0, 3 and 0.
+    let last = [
+        (0, false, true),
+        (0xfffffff8, true, true),
+        (0, false, true),
+        (0, true, false),
+    ];
+    plays(&rt, &mut TwoLevel::new(rt.alloc(), 1, 7, 16, false)?, &last);
 
     // The greatest sizes. The last instruction of memory has the last place of each table.
     let mut large = TwoLevel::new(rt.alloc(), 65536, 65536, 16, true)?;
@@ -148,6 +163,10 @@ fn choosers_follow_the_better_answer(rt: HostRuntime) -> Result<(), Fail> {
         (0x400008, false, true),
         (0x400010, false, true),
         (0x400010, false, true),
+        // The first chooser has gone down to 2, and goes to 1 between these last two.
+        (0x400000, false, false),
+        (0x400000, true, false),
+        (0x400000, false, false),
     ];
     plays(&rt, &mut combined, &steps);
     Ok(())
