@@ -8,11 +8,10 @@ use Rattle.std.proofs.lemmas.List.Elements.{All-nil, All-map}
 use Rattle.cache_core.specs.declared.config.CacheConfig.{CacheConfig}
 use Rattle.cache_core.specs.declared.answers.Touch.{Touch}
 use Rattle.cache_core.specs.declared.answers.Victim.{Victim}
-use Rattle.cache_core.specs.declared.sets.Line.{Line}
-use Rattle.cache_core.specs.Replay.{Call, Access, Fill, Settle, block_of, set_of, line_of, without, changed, marked, ending_at, entering, victim_of, touched, touched_at, lines_of, touch_of, line_at, fill_end_of, number_of, replaces, writes_back, counts_of}
+use Rattle.cache_core.specs.Replay.{Line, Call, Access, Fill, Settle, block_of, set_of, find_line, removed, changed, with_dirty, ending_at, entering, victim_of, touched, touched_at, lines_of, touch_of, line_at, fill_end_of, number_of, replaces, writes_back, counts_of}
 use Rattle.cache_core.specs.Stands.{IsBalanced}
 use Rattle.cache_core.specs.Laws.{IsOnce, KeepsPlaces, HitKeeps, IsVictim, MissBrings, AccessKeeps, FillEnds, accesses_in, CountsBalance, references, ReferencesAlone}
-use Rattle.cache_core.proofs.Lines.{line_of-changed, line_of-changed_other, line_of-map}
+use Rattle.cache_core.proofs.Lines.{find_line-changed, find_line-changed_other, find_line-map}
 use Rattle.cache_core.proofs.Places.{touched-hit_victim}
 use Rattle.cache_core.proofs.Replays.{counts_from}
 use Rattle.cache_core.proofs.Touches.{hit_lines, touched-hit, touched-hit_own, touched-hit_other, touched-miss_own, touched-miss_other, victim-miss, last_way, touched-length, touched_once, touched_all, changed_once, changed_all, map_once, length-changed}
@@ -59,7 +58,7 @@ places_kept c h k some = record { ways = ways_kept c k some h; once = once_kept 
 
 -- the lines of a block's own set after an access of it
 access_own : (c : CacheConfig) (h : List Call) (addr : ℕ) (write : Bool)
-    → line_at c (Access addr write ∷ h) (block_of c addr) ≡ line_of (block_of c addr) (touched c (lines_of c (set_of c (block_of c addr)) h) (block_of c addr) write).lines
+    → line_at c (Access addr write ∷ h) (block_of c addr) ≡ find_line (block_of c addr) (touched c (lines_of c (set_of c (block_of c addr)) h) (block_of c addr) write).lines
 unfolding lines_of line_at
 access_own c h addr write = rw (eq-eqb (set_of c (block_of c addr)) (set_of c (block_of c addr)) refl) refl
 
@@ -72,13 +71,13 @@ unfolding lines_of line_at touch_of
 hit_kept c h addr write is =
     let b = block_of c addr in
     let here = lines_of c (set_of c b) h in
-    let (l, e) = found (line_of b here) (sym (touched-hit c here b write) ∙ is) in
+    let (l, e) = found (find_line b here) (sym (touched-hit c here b write) ∙ is) in
     record {
       victim = touched-hit_victim c b write here is;
-      own = access_own c h addr write ∙ (touched-hit_own c here b write l e ∙ ap (option_map (marked write)) (sym e));
+      own = access_own c h addr write ∙ (touched-hit_own c here b write l e ∙ ap (option_map (with_dirty write)) (sym e));
       others = λ x ne.
-          set_cases (λ ls. line_of x ls ≡ line_of x (lines_of c (set_of c x) h)) c b (set_of c x) _ _
-          (λ s. touched-hit_other c (lines_of c (set_of c x) h) b write l (subst (λ k. line_of b (lines_of c k h) ≡ Some l) s e) x ne) refl;
+          set_cases (λ ls. find_line x ls ≡ find_line x (lines_of c (set_of c x) h)) c b (set_of c x) _ _
+          (λ s. touched-hit_other c (lines_of c (set_of c x) h) b write l (subst (λ k. find_line b (lines_of c k h) ≡ Some l) s e) x ne) refl;
     }
 
 option_map-IsSome : {X Y : Type 0} (f : X → Y) (o : Option X) → is_some (option_map f o) ≡ is_some o
@@ -97,9 +96,9 @@ miss_kept c h addr write some none =
       own = access_own c h addr write ∙ touched-miss_own c here b write none;
       others = λ x ne.
           set_cases
-          (λ ls. (line_of x ls ≡ line_of x (lines_of c (set_of c x) h)) ⊎ ((l : Line) × (line_of x (lines_of c (set_of c x) h) ≡ Some l) × ((touched c here b write).touch.victim ≡ Some (victim_of c l)) × (line_of x ls ≡ None)))
+          (λ ls. (find_line x ls ≡ find_line x (lines_of c (set_of c x) h)) ⊎ ((l : Line) × (find_line x (lines_of c (set_of c x) h) ≡ Some l) × ((touched c here b write).touch.victim ≡ Some (victim_of c l)) × (find_line x ls ≡ None)))
           c b (set_of c x) _ _
-          (λ s. subst (λ k. (line_of x (touched c (lines_of c k h) b write).lines ≡ line_of x (lines_of c k h)) ⊎ ((l : Line) × (line_of x (lines_of c k h) ≡ Some l) × ((touched c here b write).touch.victim ≡ Some (victim_of c l)) × (line_of x (touched c (lines_of c k h) b write).lines ≡ None))) s
+          (λ s. subst (λ k. (find_line x (touched c (lines_of c k h) b write).lines ≡ find_line x (lines_of c k h)) ⊎ ((l : Line) × (find_line x (lines_of c k h) ≡ Some l) × ((touched c here b write).touch.victim ≡ Some (victim_of c l)) × (find_line x (touched c (lines_of c k h) b write).lines ≡ None))) s
           (touched-miss_other c here b write none some le x ne))
           (inl refl);
       full = (λ v. let q : length here ≡ suc (c.ways - 1) = full.0 (sym victim ∙ v) in omega arith, λ q. victim ∙ full.1 (omega arith));
@@ -119,9 +118,9 @@ accesses_kept c h addr write some =
 abbrev fill_end_or : Option Line → ℕ
 fill_end_or o = option_map_or (λ l. l.fill_end) o 0
 
-marked_end : (write : Bool) (o : Option Line) → fill_end_or (option_map (marked write) o) ≡ fill_end_or o
-marked_end write None = refl
-marked_end write (Some l) = refl
+with_dirty_end : (write : Bool) (o : Option Line) → fill_end_or (option_map (with_dirty write) o) ≡ fill_end_or o
+with_dirty_end write None = refl
+with_dirty_end write (Some l) = refl
 
 fill_end_stays : (c : CacheConfig) (h : List Call) → 1 ≤ c.ways → (addr : ℕ) (write : Bool) (x : ℕ) → IsSome (line_at c h x) → IsSome (line_at c (Access addr write ∷ h) x)
     → fill_end_of c (Access addr write ∷ h) x ≡ fill_end_of c h x
@@ -137,7 +136,7 @@ fill_end_stays c h some addr write x was is = by_case (cases_eq x b)
     same q =
         let held : IsSome (line_at c h b) = subst (λ y. IsSome (line_at c h y)) q was in
         let own = (keeps.hit (keeps.held.1 held)).own in
-        subst (λ y. fill_end_of c (Access addr write ∷ h) y ≡ fill_end_of c h y) (sym q) (ap fill_end_or own ∙ marked_end write (line_at c h b))
+        subst (λ y. fill_end_of c (Access addr write ∷ h) y ≡ fill_end_of c h y) (sym q) (ap fill_end_or own ∙ with_dirty_end write (line_at c h b))
 
     missed_other : (x ≢ b) → (line_at c (Access addr write ∷ h) x ≡ line_at c h x) ⊎ IsVictim c h addr write x → fill_end_of c (Access addr write ∷ h) x ≡ fill_end_of c h x
     missed_other ne (inl e) = ap fill_end_or e
@@ -179,11 +178,11 @@ fill_ends_kept c h some =
     record {
       fill = λ addr end.
           let b = block_of c addr in
-          rw (eq-eqb (set_of c b) (set_of c b) refl) (line_of-changed b (ending_at end) (λ l. refl) (lines_of c (set_of c b) h));
+          rw (eq-eqb (set_of c b) (set_of c b) refl) (find_line-changed b (ending_at end) (λ l. refl) (lines_of c (set_of c b) h));
       others = λ addr end x ne.
-          set_cases (λ ls. line_of x ls ≡ line_of x (lines_of c (set_of c x) h)) c (block_of c addr) (set_of c x) _ _
-          (λ s. line_of-changed_other (block_of c addr) (ending_at end) (λ l. refl) x ne (lines_of c (set_of c x) h)) refl;
-      settle = λ x. line_of-map 0 (ending_at 0) (λ l. refl) x (lines_of c (set_of c x) h);
+          set_cases (λ ls. find_line x ls ≡ find_line x (lines_of c (set_of c x) h)) c (block_of c addr) (set_of c x) _ _
+          (λ s. find_line-changed_other (block_of c addr) (ending_at end) (λ l. refl) x ne (lines_of c (set_of c x) h)) refl;
+      settle = λ x. find_line-map 0 (ending_at 0) (λ l. refl) x (lines_of c (set_of c x) h);
       stays = fill_end_stays c h some;
       enters = fill_end_enters c h some;
     }
@@ -224,20 +223,20 @@ pub counts_kept : (c : CacheConfig) (h : List Call) → CountsBalance c h
 counts_kept c h = (accesses_counted c h, balance_kept c h)
 
 -- fills and settlings change contents in nothing but fill ends
-map-changed : (b : ℕ) (write : Bool) (lines : List Line) → map (ending_at 0) (changed b (marked write) lines) ≡ changed b (marked write) (map (ending_at 0) lines)
+map-changed : (b : ℕ) (write : Bool) (lines : List Line) → map (ending_at 0) (changed b (with_dirty write) lines) ≡ changed b (with_dirty write) (map (ending_at 0) lines)
 map-changed b write [] = refl
 map-changed b write (l ∷ lines) =
-    elim (l.block == b) as (λ t. map (ending_at 0) (cond t (marked write l ∷ lines) (l ∷ changed b (marked write) lines)) ≡ cond t (marked write (ending_at 0 l) ∷ map (ending_at 0) lines) (ending_at 0 l ∷ changed b (marked write) (map (ending_at 0) lines))) [
+    elim (l.block == b) as (λ t. map (ending_at 0) (cond t (with_dirty write l ∷ lines) (l ∷ changed b (with_dirty write) lines)) ≡ cond t (with_dirty write (ending_at 0 l) ∷ map (ending_at 0) lines) (ending_at 0 l ∷ changed b (with_dirty write) (map (ending_at 0) lines))) [
       | true ↦ refl
       | false ↦ ap (λ ls. ending_at 0 l ∷ ls) (map-changed b write lines)
     ]
 
-map-without : (b : ℕ) (lines : List Line) → map (ending_at 0) (without b lines) ≡ without b (map (ending_at 0) lines)
-map-without b [] = refl
-map-without b (l ∷ lines) =
-    elim (l.block == b) as (λ t. map (ending_at 0) (cond t lines (l ∷ without b lines)) ≡ cond t (map (ending_at 0) lines) (ending_at 0 l ∷ without b (map (ending_at 0) lines))) [
+map-removed : (b : ℕ) (lines : List Line) → map (ending_at 0) (removed b lines) ≡ removed b (map (ending_at 0) lines)
+map-removed b [] = refl
+map-removed b (l ∷ lines) =
+    elim (l.block == b) as (λ t. map (ending_at 0) (cond t lines (l ∷ removed b lines)) ≡ cond t (map (ending_at 0) lines) (ending_at 0 l ∷ removed b (map (ending_at 0) lines))) [
       | true ↦ refl
-      | false ↦ ap (λ ls. ending_at 0 l ∷ ls) (map-without b lines)
+      | false ↦ ap (λ ls. ending_at 0 l ∷ ls) (map-removed b lines)
     ]
 
 map-filled : (b end : ℕ) (lines : List Line) → map (ending_at 0) (changed b (ending_at end) lines) ≡ map (ending_at 0) lines
@@ -262,13 +261,13 @@ touched-settled : (c : CacheConfig) (lines : List Line) (b : ℕ) (write : Bool)
     × (map (ending_at 0) (touched c lines b write).lines ≡ (touched c (map (ending_at 0) lines) b write).lines)
 unfolding touched
 touched-settled c lines b write =
-    subst (λ o. ((touched_at c lines b write (line_of b lines)).touch ≡ (touched_at c (map (ending_at 0) lines) b write o).touch)
-    × (map (ending_at 0) (touched_at c lines b write (line_of b lines)).lines ≡ (touched_at c (map (ending_at 0) lines) b write o).lines))
-    (sym (line_of-map 0 (ending_at 0) (λ l. refl) b lines)) (by_case (line_of b lines))
+    subst (λ o. ((touched_at c lines b write (find_line b lines)).touch ≡ (touched_at c (map (ending_at 0) lines) b write o).touch)
+    × (map (ending_at 0) (touched_at c lines b write (find_line b lines)).lines ≡ (touched_at c (map (ending_at 0) lines) b write o).lines))
+    (sym (find_line-map 0 (ending_at 0) (λ l. refl) b lines)) (by_case (find_line b lines))
   where
     on_hit : (fifo : Bool) (l : Line) → map (ending_at 0) (hit_lines fifo b write lines l) ≡ hit_lines fifo b write (map (ending_at 0) lines) (ending_at 0 l)
     on_hit true l = map-changed b write lines
-    on_hit false l = ap (λ ls. marked write (ending_at 0 l) ∷ ls) (map-without b lines)
+    on_hit false l = ap (λ ls. with_dirty write (ending_at 0 l) ∷ ls) (map-removed b lines)
 
     by_case : (o : Option Line) → ((touched_at c lines b write o).touch ≡ (touched_at c (map (ending_at 0) lines) b write (option_map (ending_at 0) o)).touch)
         × (map (ending_at 0) (touched_at c lines b write o).lines ≡ (touched_at c (map (ending_at 0) lines) b write (option_map (ending_at 0) o)).lines)

@@ -4,10 +4,9 @@ use Rattle.std.specs.Prelude.{◌==◌, if◌then◌else◌, is_some, not, filte
 use Rattle.std.proofs.lemmas.Bool.{eqb-true, eqb-false, both_ways}
 use Rattle.std.proofs.lemmas.List.{take-map, take-take}
 use Rattle.cache_core.specs.declared.config.CacheConfig.{CacheConfig}
-use Rattle.cache_core.specs.declared.sets.Line.{Line}
-use Rattle.cache_core.specs.Replay.{Call, Access, Fill, Settle, block_of, set_of, line_of, without, changed, marked, ending_at, touched, lines_of, touch_of}
+use Rattle.cache_core.specs.Replay.{Line, Call, Access, Fill, Settle, block_of, set_of, find_line, removed, changed, with_dirty, ending_at, touched, lines_of, touch_of}
 use Rattle.cache_core.specs.Laws.{recent, missed, IsReplacing}
-use Rattle.cache_core.proofs.Lines.{line_of-is}
+use Rattle.cache_core.proofs.Lines.{find_line-is}
 use Rattle.cache_core.proofs.Touches.{touched-hit, lines-hit, lines-miss, hit_lines}
 
 -- the blocks of lines
@@ -42,13 +41,13 @@ first_out : ℕ → List ℕ → List ℕ
 first_out b [] = []
 first_out b (x ∷ xs) = cond (x == b) xs (x ∷ first_out b xs)
 
-blocks-without : (b : ℕ) (lines : List Line) → blocks (without b lines) ≡ first_out b (blocks lines)
+blocks-removed : (b : ℕ) (lines : List Line) → blocks (removed b lines) ≡ first_out b (blocks lines)
 unfolding first_out
-blocks-without b [] = refl
-blocks-without b (l ∷ lines) =
-    elim (l.block == b) as (λ t. blocks (cond t lines (l ∷ without b lines)) ≡ cond t (blocks lines) (l.block ∷ first_out b (blocks lines))) [
+blocks-removed b [] = refl
+blocks-removed b (l ∷ lines) =
+    elim (l.block == b) as (λ t. blocks (cond t lines (l ∷ removed b lines)) ≡ cond t (blocks lines) (l.block ∷ first_out b (blocks lines))) [
       | true ↦ refl
-      | false ↦ ap (λ xs. l.block ∷ xs) (blocks-without b lines)
+      | false ↦ ap (λ xs. l.block ∷ xs) (blocks-removed b lines)
     ]
 
 -- whether b is among numbers
@@ -56,11 +55,11 @@ among : ℕ → List ℕ → Bool
 among b [] = false
 among b (x ∷ xs) = cond (x == b) true (among b xs)
 
-among-blocks : (b : ℕ) (lines : List Line) → among b (blocks lines) ≡ is_some (line_of b lines)
+among-blocks : (b : ℕ) (lines : List Line) → among b (blocks lines) ≡ is_some (find_line b lines)
 unfolding among
 among-blocks b [] = refl
 among-blocks b (l ∷ lines) =
-    elim (l.block == b) as (λ t. cond t true (among b (blocks lines)) ≡ is_some (cond t (Some l) (line_of b lines))) [
+    elim (l.block == b) as (λ t. cond t true (among b (blocks lines)) ≡ is_some (cond t (Some l) (find_line b lines))) [
       | true ↦ refl
       | false ↦ among-blocks b lines
     ]
@@ -137,34 +136,34 @@ not_among_first b n (x ∷ xs) e = by_case (x == b) n e (λ m q. not_among_first
 
 -- one access of the set
 module _ (c : CacheConfig) (n : ℕ) (ways : c.ways ≡ suc n) (lines : List Line) (b : ℕ) (write : Bool) where
-  taken-miss : line_of b lines ≡ None → blocks (touched c lines b write).lines ≡ b ∷ take n (blocks lines)
+  taken-miss : find_line b lines ≡ None → blocks (touched c lines b write).lines ≡ b ∷ take n (blocks lines)
   taken-miss e =
       ap blocks (lines-miss c lines b write e)
       ∙ (ap (λ ls. b ∷ ls) (sym (take-map (λ (l : Line). l.block) (c.ways - 1) lines)) ∙ ap (λ m. b ∷ take m (blocks lines)) (omega arith))
 
   renews : (xs : List ℕ) → Once xs → c.fifo ≡ false → blocks lines ≡ take (suc n) xs → blocks (touched c lines b write).lines ≡ b ∷ take n (filter (is_not b) xs)
-  renews xs once fifo e = by_case (line_of b lines) refl
+  renews xs once fifo e = by_case (find_line b lines) refl
     where
-      by_case : (o : Option Line) → line_of b lines ≡ o → blocks (touched c lines b write).lines ≡ b ∷ take n (filter (is_not b) xs)
+      by_case : (o : Option Line) → find_line b lines ≡ o → blocks (touched c lines b write).lines ≡ b ∷ take n (filter (is_not b) xs)
       by_case (Some l) is =
           let held : among b (take (suc n) xs) ≡ true = sym (ap (among b) e) ∙ (among-blocks b lines ∙ ap is_some is) in
           ap blocks (lines-hit c lines b write l is)
           ∙ (ap (λ f. blocks (hit_lines f b write lines l)) fifo
-          ∙ (ap (λ x. x ∷ blocks (without b lines)) (line_of-is b lines l is)
-          ∙ ap (λ xs. b ∷ xs) (blocks-without b lines ∙ (ap (first_out b) e ∙ among_first b n xs once held))))
+          ∙ (ap (λ x. x ∷ blocks (removed b lines)) (find_line-is b lines l is)
+          ∙ ap (λ xs. b ∷ xs) (blocks-removed b lines ∙ (ap (first_out b) e ∙ among_first b n xs once held))))
       by_case None is =
           let gone : among b (take (suc n) xs) ≡ false = sym (ap (among b) e) ∙ (among-blocks b lines ∙ ap is_some is) in
           taken-miss is ∙ ap (λ ys. b ∷ ys) (ap (take n) e ∙ (take-take n (suc n) xs (omega arith) ∙ not_among_first b n xs gone))
 
   enters : (xs : List ℕ) → c.fifo ≡ true → blocks lines ≡ take (suc n) xs
       → blocks (touched c lines b write).lines ≡ take (suc n) (if (touched c lines b write).touch.hit then xs else b ∷ xs)
-  enters xs fifo e = by_case (line_of b lines) refl
+  enters xs fifo e = by_case (find_line b lines) refl
     where
-      by_case : (o : Option Line) → line_of b lines ≡ o → blocks (touched c lines b write).lines ≡ take (suc n) (cond (touched c lines b write).touch.hit xs (b ∷ xs))
+      by_case : (o : Option Line) → find_line b lines ≡ o → blocks (touched c lines b write).lines ≡ take (suc n) (cond (touched c lines b write).touch.hit xs (b ∷ xs))
       by_case (Some l) is =
           ap blocks (lines-hit c lines b write l is)
           ∙ (ap (λ f. blocks (hit_lines f b write lines l)) fifo
-          ∙ (blocks-changed b (marked write) (λ m. refl) lines
+          ∙ (blocks-changed b (with_dirty write) (λ m. refl) lines
           ∙ (e ∙ ap (λ t. take (suc n) (cond t xs (b ∷ xs))) (sym (touched-hit c lines b write ∙ ap is_some is)))))
       by_case None is =
           taken-miss is

@@ -10,9 +10,8 @@ use Rattle.std.proofs.lemmas.List.{get_or_default, length-map, append-nil, take_
 use Rattle.std.proofs.lemmas.List.Elements.{All-set, All-cons, All-append, All-take, All-drop, All-get_or, All-map}
 use Rattle.cache_core.specs.declared.config.CacheConfig.{CacheConfig}
 use Rattle.cache_core.specs.declared.answers.Touch.{Touch}
-use Rattle.cache_core.specs.declared.sets.Line.{Line}
-use Rattle.cache_core.specs.Replay.{line_of, without, changed, marked, ending_at, victim_of, touched, touched_at}
-use Rattle.cache_core.specs.Stands.{HeldSet, IsSoundSet}
+use Rattle.cache_core.specs.Replay.{Line, find_line, removed, changed, with_dirty, ending_at, victim_of, touched, touched_at}
+use Rattle.cache_core.specs.Sound.{HeldSet, IsSoundSet}
 
 abbrev pub is_of : ℕ → Line → Bool
 is_of b l = l.block == b
@@ -20,15 +19,15 @@ is_of b l = l.block == b
 -- the first line of the block stands at this place
 pub record FirstAt (b i : ℕ) (lines : List Line) (d : Line) : Type 0 where
   pub inside : i < length lines
-  pub line : line_of b lines ≡ Some (get_or lines i d)
+  pub line : find_line b lines ≡ Some (get_or lines i d)
   pub changed : (f : Line → Line) → changed b f lines ≡ set lines i (f (get_or lines i d))
-  pub without : without b lines ≡ remove lines i
+  pub removed : removed b lines ≡ remove lines i
 
 first_at : (b i : ℕ) (lines : List Line) (d : Line) → i < length lines → is_of b (get_or lines i d) ≡ true
     → ((k : ℕ) → k < i → is_of b (get_or lines k d) ≡ false) → FirstAt b i lines d
 first_at b i [] d h e before = absurd (omega arith)
 first_at b zero (l ∷ lines) d h e before =
-    record { inside = omega arith; line = rw e refl; changed = λ f. rw e refl; without = rw e refl }
+    record { inside = omega arith; line = rw e refl; changed = λ f. rw e refl; removed = rw e refl }
 first_at b (suc i) (l ∷ lines) d h e before =
     let head : is_of b l ≡ false = before 0 (omega arith) in
     let rest : FirstAt b i lines d = first_at b i lines d (omega arith) e (λ k lt. before (suc k) (omega arith)) in
@@ -36,18 +35,18 @@ first_at b (suc i) (l ∷ lines) d h e before =
       inside = omega arith;
       line = rw head rest.line;
       changed = λ f. rw head (ap (λ ls. l ∷ ls) (rest.changed f));
-      without = rw head (ap (λ ls. l ∷ ls) rest.without);
+      removed = rw head (ap (λ ls. l ∷ ls) rest.removed);
     }
 
 pub found_at : (b i : ℕ) (lines : List Line) (d : Line) → position (is_of b) lines ≡ Some i → FirstAt b i lines d
 found_at b i lines d e = let p = position-Some (is_of b) lines i d e in first_at b i lines d p.0 p.1 p.2
 
-none_from : (b i : ℕ) (lines : List Line) → position_from (is_of b) i lines ≡ None → line_of b lines ≡ None
+none_from : (b i : ℕ) (lines : List Line) → position_from (is_of b) i lines ≡ None → find_line b lines ≡ None
 none_from b i [] e = refl
 none_from b i (l ∷ lines) e = by_case (is_of b l) (none_from b (i + 1) lines) e
   where
-    by_case : (t : Bool) → (position_from (is_of b) (i + 1) lines ≡ None → line_of b lines ≡ None)
-        → cond t (Some i) (position_from (is_of b) (i + 1) lines) ≡ None → cond t (Some l) (line_of b lines) ≡ None
+    by_case : (t : Bool) → (position_from (is_of b) (i + 1) lines ≡ None → find_line b lines ≡ None)
+        → cond t (Some i) (position_from (is_of b) (i + 1) lines) ≡ None → cond t (Some l) (find_line b lines) ≡ None
     by_case true ih e = absurd cc
     by_case false ih e = ih e
 
@@ -60,20 +59,20 @@ pub place_in : (b : ℕ) (given lines : List Line) (answer place : Option ℕ) �
     → position (is_of b) lines ≡ place
 place_in b given lines answer place e same is = sym (ap (position (is_of b)) same) ∙ (sym e ∙ is)
 
-pub nowhere : (b : ℕ) (lines : List Line) → position (is_of b) lines ≡ None → line_of b lines ≡ None
+pub nowhere : (b : ℕ) (lines : List Line) → position (is_of b) lines ≡ None → find_line b lines ≡ None
 nowhere b lines e = none_from b 0 lines (sym (position_from-zero (is_of b) lines) ∙ e)
 
 -- what a hit at a place leaves
 abbrev pub renewed : Bool → Bool → ℕ → List Line → Line → List Line
 renewed fifo write i lines d =
-    if fifo then set lines i (marked write (get_or lines i d)) else marked write (get_or lines i d) ∷ remove lines i
+    if fifo then set lines i (with_dirty write (get_or lines i d)) else with_dirty write (get_or lines i d) ∷ remove lines i
 
 pub touched_hit : (c : CacheConfig) (b i : ℕ) (write : Bool) (lines : List Line) (d : Line) → position (is_of b) lines ≡ Some i
     → (◌≡◌ {A = Touch} (record { hit = true; victim = None }) (touched c lines b write).touch) × (renewed c.fifo write i lines d ≡ (touched c lines b write).lines)
 unfolding touched
 touched_hit c b i write lines d e =
     let f = found_at b i lines d e in
-    rw (f.line, f.changed (marked write), f.without) (refl, refl)
+    rw (f.line, f.changed (with_dirty write), f.removed) (refl, refl)
 
 pub touched_miss : (c : CacheConfig) (b : ℕ) (write : Bool) (lines : List Line) → position (is_of b) lines ≡ None
     → (◌≡◌ {A = Touch} (record { hit = false; victim = option_map (victim_of c) (slice_get lines (c.ways - 1)) }) (touched c lines b write).touch)
@@ -87,7 +86,7 @@ in_front l lines kept new e k = e ∙ ap (λ ls. l ∷ ls) k
 -- only a miss lets a line leave
 pub touched-hit_victim : (c : CacheConfig) (b : ℕ) (write : Bool) (lines : List Line) → (touched c lines b write).touch.hit ≡ true → (touched c lines b write).touch.victim ≡ None
 unfolding touched
-touched-hit_victim c b write lines = by_case (line_of b lines)
+touched-hit_victim c b write lines = by_case (find_line b lines)
   where
     by_case : (o : Option Line) → (touched_at c lines b write o).touch.hit ≡ true → (touched_at c lines b write o).touch.victim ≡ None
     by_case (Some l) e = refl
@@ -98,7 +97,7 @@ renewed_length : (fifo write : Bool) (i : ℕ) (lines : List Line) (d : Line) �
 renewed_length true write i lines d h = length-set lines i _
 renewed_length false write i lines d h = omega (arith, length-remove lines i h)
 
-renewed_space : (P : Line → Type 0) → ((write : Bool) (l : Line) → P l → P (marked write l)) → (fifo write : Bool) (i : ℕ) (lines : List Line) (d : Line)
+renewed_space : (P : Line → Type 0) → ((write : Bool) (l : Line) → P l → P (with_dirty write l)) → (fifo write : Bool) (i : ℕ) (lines : List Line) (d : Line)
     → i < length lines → All P lines → All P (renewed fifo write i lines d)
 renewed_space P keeps true write i lines d h all = All-set P lines i _ (keeps write _ (All-get_or P lines i d h all)) all
 renewed_space P keeps false write i lines d h all =
@@ -123,26 +122,26 @@ pub changed_at : (b i : ℕ) (f : Line → Line) (lines : List Line) (x : Line) 
 changed_at b i f lines x place e = ap (λ y. set lines i (f y)) e ∙ sym ((found_at b i lines x place).changed f)
 
 pub fill_end_at : (b i : ℕ) (lines : List Line) (x : Line) → position (is_of b) lines ≡ Some i → x ≡ get_or lines i x
-    → x.fill_end ≡ option_map_or (λ l. l.fill_end) (line_of b lines) 0
+    → x.fill_end ≡ option_map_or (λ l. l.fill_end) (find_line b lines) 0
 fill_end_at b i lines x place e = ap (λ y. y.fill_end) e ∙ ap (λ o. option_map_or (λ (l : Line). l.fill_end) o 0) (sym (found_at b i lines x place).line)
 
-pub fill_end_none : (b : ℕ) (lines : List Line) → position (is_of b) lines ≡ None → 0 ≡ option_map_or (λ l. l.fill_end) (line_of b lines) 0
+pub fill_end_none : (b : ℕ) (lines : List Line) → position (is_of b) lines ≡ None → 0 ≡ option_map_or (λ l. l.fill_end) (find_line b lines) 0
 fill_end_none b lines place = ap (λ o. option_map_or (λ (l : Line). l.fill_end) o 0) (sym (nowhere b lines place))
 
-pub changed_none : (b : ℕ) (f : Line → Line) (lines : List Line) → line_of b lines ≡ None → changed b f lines ≡ lines
+pub changed_none : (b : ℕ) (f : Line → Line) (lines : List Line) → find_line b lines ≡ None → changed b f lines ≡ lines
 changed_none b f [] e = refl
 changed_none b f (l ∷ lines) e = by_case (is_of b l) (changed_none b f lines) e
   where
-    by_case : (t : Bool) → (line_of b lines ≡ None → changed b f lines ≡ lines) → cond t (Some l) (line_of b lines) ≡ None
+    by_case : (t : Bool) → (find_line b lines ≡ None → changed b f lines ≡ lines) → cond t (Some l) (find_line b lines) ≡ None
         → cond t (f l ∷ lines) (l ∷ changed b f lines) ≡ l ∷ lines
     by_case true ih e = absurd cc
     by_case false ih e = ap (λ ls. l ∷ ls) (ih e)
 
 -- a loop that settles each line
-pub settled_more : (i : ℕ) (old new : List Line) → i < length new → length new ≡ length old → new ≡ map (ending_at 0) (take i old) ++ drop i old
-    → set new i (ending_at 0 (get_or new i blank)) ≡ map (ending_at 0) (take (i + 1) old) ++ drop (i + 1) old
-settled_more i old new inside same e =
-    map_over_more (ending_at 0) old new i (get_or new i blank) (omega arith) e (get_or_default new i blank (get_or new i blank) inside)
+pub settled_more : (i : ℕ) (old new : List Line) (d : Line) → i < length new → length new ≡ length old → new ≡ map (ending_at 0) (take i old) ++ drop i old
+    → set new i (ending_at 0 (get_or new i d)) ≡ map (ending_at 0) (take (i + 1) old) ++ drop (i + 1) old
+settled_more i old new d inside same e =
+    map_over_more (ending_at 0) old new i (get_or new i d) (omega arith) e (get_or_default new i d (get_or new i d) inside)
 
 pub settled_all : (i : ℕ) (old new items : List Line) → length new ≤ i → length new ≡ length old → new ≡ map (ending_at 0) (take i old) ++ drop i old → old ≡ items
     → new ≡ map (ending_at 0) items

@@ -2,8 +2,7 @@
 use Rattle.std.specs.Prelude.{◌≡◌, ◌≢◌, ℕ, ◌+◌, ◌≤◌, ◌↔◌, ◌⊎◌, Bool, true, false, not, List, [], ◌∷◌, length, Some, None, IsTrue, IsSome, ◌==◌, if◌then◌else◌, filter, take, map, All}
 use Rattle.std.specs.Option.{option_map}
 use Rattle.cache_core.specs.declared.config.CacheConfig.{CacheConfig}
-use Rattle.cache_core.specs.declared.sets.Line.{Line}
-use Rattle.cache_core.specs.Replay.{Call, Access, Fill, Settle, block_of, set_of, line_of, marked, ending_at, entering, victim_of, lines_of, touch_of, line_at, fill_end_of, counts_of}
+use Rattle.cache_core.specs.Replay.{Line, Call, Access, Fill, Settle, block_of, set_of, find_line, with_dirty, ending_at, entering, victim_of, lines_of, touch_of, line_at, fill_end_of, counts_of}
 use Rattle.cache_core.specs.Stands.{IsBalanced}
 
 -- how many of the calls are accesses
@@ -19,7 +18,7 @@ CountsBalance c h = (accesses_in h ≡ (counts_of c h).accesses) × IsBalanced (
 -- no line is of the block of a line behind it
 abbrev pub IsOnce : List Line → Type 0
 IsOnce [] = Unit {0}
-IsOnce (l ∷ lines) = (line_of l.block lines ≡ None) × IsOnce lines
+IsOnce (l ∷ lines) = (find_line l.block lines ≡ None) × IsOnce lines
 
 -- set k has at most as many lines as ways, holds no block twice, and holds blocks of its own alone
 pub record KeepsPlaces (c : CacheConfig) (h : List Call) (k : ℕ) : Type 0 where
@@ -31,7 +30,7 @@ pub record KeepsPlaces (c : CacheConfig) (h : List Call) (k : ℕ) : Type 0 wher
 -- every other one has the line that it had
 pub record HitKeeps (c : CacheConfig) (h : List Call) (addr : ℕ) (write : Bool) : Type 0 where
   pub victim : (touch_of c h addr write).victim ≡ None
-  pub own : line_at c (Access addr write ∷ h) (block_of c addr) ≡ option_map (marked write) (line_at c h (block_of c addr))
+  pub own : line_at c (Access addr write ∷ h) (block_of c addr) ≡ option_map (with_dirty write) (line_at c h (block_of c addr))
   pub others : (x : ℕ) → x ≢ block_of c addr → line_at c (Access addr write ∷ h) x ≡ line_at c h x
 
 -- block x leaves in the access, and is its victim

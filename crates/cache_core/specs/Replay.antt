@@ -5,7 +5,6 @@ use Rattle.cache_core.specs.declared.config.CacheConfig.{CacheConfig}
 use Rattle.cache_core.specs.declared.answers.Touch.{Touch}
 use Rattle.cache_core.specs.declared.answers.Victim.{Victim}
 use Rattle.cache_core.specs.declared.answers.Counts.{Counts}
-use Rattle.cache_core.specs.declared.sets.Line.{Line}
 
 -- a call that may change a cache: a reference with its address and whether it writes, the fill end of an address's
 -- block, and the settling of all fill ends
@@ -14,30 +13,36 @@ pub data Call : Type 0 where
   Fill : ℕ → ℕ → Call
   Settle : Call
 
--- the block of an address, by its number, and the set of a block
+-- what is known of a block that a set holds: its number, whether it was written since it came in, and its fill end
+pub record Line : Type 0 where
+  pub block : ℕ
+  pub dirty : Bool
+  pub fill_end : ℕ
+
+-- a block is numbered by the addresses divided by its bytes, and lies in the set that this number gives
 abbrev pub block_of : CacheConfig → ℕ → ℕ
 block_of c addr = addr / c.block
 
 abbrev pub set_of : CacheConfig → ℕ → ℕ
 set_of c b = b % c.sets
 
--- the line of a block among lines
-abbrev pub line_of : ℕ → List Line → Option Line
-line_of b lines = find (λ l. l.block == b) lines
+-- what is known of block b, None exactly where it isn't held
+abbrev pub find_line : ℕ → List Line → Option Line
+find_line b lines = find (λ l. l.block == b) lines
 
--- the lines without the one of the block
-abbrev pub without : ℕ → List Line → List Line
-without b [] = []
-without b (l ∷ lines) = if l.block == b then lines else l ∷ without b lines
+-- all lines but the one of block b, in their order
+abbrev pub removed : ℕ → List Line → List Line
+removed b [] = []
+removed b (l ∷ lines) = if l.block == b then lines else l ∷ removed b lines
 
 -- the lines with the one of the block changed where it stands
 abbrev pub changed : ℕ → (Line → Line) → List Line → List Line
 changed b f [] = []
 changed b f (l ∷ lines) = if l.block == b then f l ∷ lines else l ∷ changed b f lines
 
--- a write makes a line dirty
-abbrev pub marked : Bool → Line → Line
-marked write l = record l { dirty = l.dirty || write }
+-- a line is dirty from its first write on
+abbrev pub with_dirty : Bool → Line → Line
+with_dirty write l = record l { dirty = l.dirty || write }
 
 abbrev pub ending_at : ℕ → Line → Line
 ending_at end l = record l { fill_end = end }
@@ -62,7 +67,7 @@ abbrev pub touched_at : CacheConfig → List Line → ℕ → Bool → Option Li
 touched_at c lines b write (Some l) =
     record {
       touch = record { hit = true; victim = None };
-      lines = if c.fifo then changed b (marked write) lines else marked write l ∷ without b lines;
+      lines = if c.fifo then changed b (with_dirty write) lines else with_dirty write l ∷ removed b lines;
     }
 touched_at c lines b write None =
     record {
@@ -71,7 +76,7 @@ touched_at c lines b write None =
     }
 
 unfoldable pub touched : CacheConfig → List Line → ℕ → Bool → SetTouch
-touched c lines b write = touched_at c lines b write (line_of b lines)
+touched c lines b write = touched_at c lines b write (find_line b lines)
 
 -- the lines of set k after these calls
 unfoldable pub lines_of : CacheConfig → ℕ → List Call → List Line
@@ -88,7 +93,7 @@ touch_of c h addr write = (touched c (lines_of c (set_of c (block_of c addr)) h)
 
 -- the line of a block after these calls, None exactly where the block isn't held
 unfoldable pub line_at : CacheConfig → List Call → ℕ → Option Line
-line_at c h b = line_of b (lines_of c (set_of c b) h)
+line_at c h b = find_line b (lines_of c (set_of c b) h)
 
 -- the fill end of a block after these calls, 0 where the block isn't held
 abbrev pub fill_end_of : CacheConfig → List Call → ℕ → ℕ

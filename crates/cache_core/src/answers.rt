@@ -16,7 +16,8 @@ pub struct Victim {
 pub struct Touch {
     /// Whether the block was held.
     pub hit: bool,
-    /// The block that left its set for the missing one; None where nothing left.
+    /// The block that left its set for the missing one. `None` exactly where none left: on a hit, and where the set was
+    /// not full.
     pub victim: Option<Victim>,
 }
 

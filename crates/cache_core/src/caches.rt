@@ -33,11 +33,12 @@ pub struct Cache {
 }
 
 impl Model for Cache {
-    ghost use Rattle.cache_core.specs.Stands.{Held, IsSound};
+    ghost use Rattle.cache_core.specs.Stands.{Held};
+    ghost use Rattle.cache_core.specs.Sound.{IsSound, shown};
 
     ghost Value = { Held };
 
-    ghost view = { λ c. record { config = c.config; sets = c.sets.items; counts = c.counts } };
+    ghost view = { λ c. shown (record { config = c.config; sets = c.sets.items; counts = c.counts }) };
 
     ghost invariant = { λ c. IsSound (record { config = c.config; sets = c.sets.items; counts = c.counts }) };
 }

@@ -1,9 +1,8 @@
 ghost use Rattle.std.specs.Prelude.{if◌then◌else◌, ◌≡◌, ℕ, ◌+◌, ◌-◌, ◌*◌, ◌^◌, ◌<◌, ◌≤◌, ◌==◌, List, [], ◌∷◌, All, length, position, vec_len, vec_capacity, slice_get, take, remove, slice_index_or, slice_set, map, IfOk, IsTrue, None};
 ghost use Rattle.std.specs.Option.{option_map, option_map_or};
-ghost use Rattle.cache_core.specs.Replay.{touched, line_of, changed, marked, ending_at, victim_of};
-ghost use Rattle.cache_core.specs.Stands.{IsSoundSet};
+ghost use Rattle.cache_core.specs.Replay.{Line, touched, find_line, changed, with_dirty, ending_at, victim_of};
+ghost use Rattle.cache_core.specs.Sound.{IsSoundSet};
 ghost use Rattle.cache_core.specs.declared.config.CacheConfig.{CacheConfig};
-ghost use Rattle.cache_core.specs.declared.sets.Line.{Line};
 
 use crate::answers::{Touch, Victim};
 use crate::config::CacheConfig;
@@ -19,6 +18,16 @@ pub struct Line {
     pub dirty: bool,
     /// The cycle in which its bytes are there, 0 until it is set.
     pub fill_end: u64,
+}
+
+impl Model for Line {
+    ghost use Rattle.cache_core.specs.Replay.{Line};
+
+    ghost Value = { Line };
+
+    ghost view = { λ l. record { block = l.block; dirty = l.dirty; fill_end = l.fill_end } };
+
+    ghost inverse = { λ v. record { block = v.block; dirty = v.dirty; fill_end = v.fill_end } };
 }
 
 impl Line {
@@ -57,7 +66,7 @@ fn push_front(lines: &mut Vec<Line>, line: Line)
 fn renew(lines: &mut Vec<Line>, place: usize, write: bool, fifo: bool)
     requires inside { place < vec_len lines.old }
     requires room { vec_len lines.old ≤ vec_capacity lines.old }
-    ensures items { (d : Line) → lines.new.items ≡ (if fifo then slice_set lines.old.items place (marked write (slice_index_or lines.old.items place d)) else marked write (slice_index_or lines.old.items place d) ∷ remove lines.old.items place) }
+    ensures items { (d : Line) → lines.new.items ≡ (if fifo then slice_set lines.old.items place (with_dirty write (slice_index_or lines.old.items place d)) else with_dirty write (slice_index_or lines.old.items place d) ∷ remove lines.old.items place) }
     ensures capacity { vec_capacity lines.old ≤ vec_capacity lines.new }
 {
     if fifo {
@@ -96,7 +105,7 @@ pub struct CacheSet {
 
 impl Model for CacheSet {
     ghost use Rattle.std.specs.Prelude.{vec_capacity};
-    ghost use Rattle.cache_core.specs.Stands.{HeldSet};
+    ghost use Rattle.cache_core.specs.Sound.{HeldSet};
 
     ghost Value = { HeldSet };
 
@@ -132,15 +141,13 @@ impl CacheSet {
                 }
             }
             None => {
+                let line = Line {
+                    block,
+                    dirty: write,
+                    fill_end: 0,
+                };
                 let victim = make_room(&mut self.lines, config);
-                push_front(
-                    &mut self.lines,
-                    Line {
-                        block,
-                        dirty: write,
-                        fill_end: 0,
-                    },
-                );
+                push_front(&mut self.lines, line);
                 Touch { hit: false, victim }
             }
         }
@@ -159,7 +166,7 @@ impl CacheSet {
 
     /// The block's fill end, 0 where the block is not held.
     pub fn fill_end(&self, block: u32) -> u64
-        ensures { result ≡ option_map_or (λ l. l.fill_end) (line_of block self.now.lines) 0 }
+        ensures { result ≡ option_map_or (λ l. l.fill_end) (find_line block self.now.lines) 0 }
     {
         match place_of(&self.lines, block) {
             Some(place) => self.lines[place].fill_end,

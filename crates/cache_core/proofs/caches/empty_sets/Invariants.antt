@@ -1,5 +1,5 @@
 use Rattle.std.proofs.Common.{◌≡◌, List, [], replicate}
-use Rattle.cache_core.specs.Stands.{HeldSet}
+use Rattle.cache_core.specs.Sound.{HeldSet}
 use Rattle.cache_core.proofs.caches.empty_sets.Given as goal
 
 abbrev pub invariant-loop-k : goal.invariant-loop-k

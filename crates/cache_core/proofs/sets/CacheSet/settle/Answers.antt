@@ -1,4 +1,4 @@
-use Rattle.std.proofs.Common.{◌≡◌, ◌∙◌, length, map, ap, arith}
+use Rattle.std.proofs.Common.{◌≡◌, ◌∙◌, length, set, map, ap, arith}
 use Rattle.cache_core.specs.Replay.{ending_at}
 use Rattle.cache_core.proofs.Places.{settled_more, settled_all, settled_set}
 use Rattle.cache_core.proofs.Replays.{all_written}
@@ -6,7 +6,8 @@ use Rattle.cache_core.proofs.sets.CacheSet.settle.Goals as goal
 
 pub loop-line-preserved : goal.loop-line-preserved
 loop-line-preserved c =
-    settled_more c.loop-line.line-index c.deref_mut-line-items.result.now c.loop-line.line-items (omega arith) (omega arith) c.loop-line.invariant
+    ap (λ l. set c.loop-line.line-items c.loop-line.line-index (ending_at 0 l)) c.line.view_is
+    ∙ settled_more c.loop-line.line-index c.deref_mut-line-items.result.now c.loop-line.line-items _ (omega arith) (omega arith) c.loop-line.invariant
 
 pub returns-clause-sound : goal.returns-clause-sound
 returns-clause-sound c = λ shape sound.
