@@ -1,3 +1,5 @@
+ghost use Rattle.std.specs.Prelude.{◌<◌};
+
 use crate::ending::{Ending, Unbuilt};
 use crate::simulate::simulate;
 use sim_safe::Cause;
