@@ -6,7 +6,8 @@ use Rattle.std.proofs.lemmas.List.{append-nil, length-map, take_more, get_or-map
 use Rattle.std.proofs.lemmas.List.Concat.{flat_map-append}
 use Rattle.std.proofs.lemmas.List.Folds.{length-flat_map-take}
 use Rattle.std.proofs.lemmas.List.FromFn.{length-range_with_len, map-range_with_len_more}
-use Rattle.ecoff_load.specs.Start.{word_bytes, ended_strings, words_length, pointer_to, block_words, block}
+use Rattle.ecoff_load.specs.Words.{word_bytes}
+use Rattle.ecoff_load.specs.Start.{ended_strings, words_length, pointer_to, block_words, block}
 
 length-word_bytes : (big : Bool) (word : ℕ) → length (word_bytes big word) ≡ 4
 length-word_bytes true word = refl

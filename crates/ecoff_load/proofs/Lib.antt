@@ -1,1 +1,12 @@
 pub mod Block
+pub mod Lists
+pub mod FirstFailing
+pub mod Judged
+pub mod Passed
+pub mod Copied
+pub mod Described
+pub mod Exact
+pub mod Written
+pub mod Again
+pub mod RoundTrip
+pub mod Places

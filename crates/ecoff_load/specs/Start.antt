@@ -1,14 +1,9 @@
 -- The start block: the arguments as a program finds them on its stack.
-use Rattle.std.specs.Prelude.{◌≡◌, ◌+◌, ◌-◌, ◌*◌, ◌^◌, ◌<◌, ℕ, Bool, true, false, List, [], ◌∷◌, ◌++◌, length, take, map, min}
-use Rattle.std.specs.Int.{w32, to_le_bytes, to_be_bytes}
+use Rattle.std.specs.Prelude.{◌≡◌, ◌+◌, ◌-◌, ◌*◌, ◌^◌, ◌<◌, ℕ, Bool, List, [], ◌∷◌, ◌++◌, length, take, map, min}
 use Rattle.std.specs.List.{flat_map, range_with_len}
+use Rattle.ecoff_load.specs.Words.{word_bytes}
 use Rattle.ecoff_load.specs.declared.start.StartFault.{StartFault}
 use Rattle.ecoff_load.specs.declared.start.StartFault.TheVariants as faults
-
--- the bytes of a word, in the byte order
-abbrev pub word_bytes : Bool → ℕ → List ℕ
-word_bytes false word = to_le_bytes w32 word
-word_bytes true word = to_be_bytes w32 word
 
 -- strings behind one another, each ended by a zero byte
 abbrev pub ended_strings : List (List ℕ) → List ℕ

@@ -1,80 +1,130 @@
-ghost use Rattle.std.specs.Prelude.{◌≡◌, IfOk};
-ghost use Rattle.ecoff_load.specs.Object.{Reads, IsImage};
-ghost use Rattle.ecoff_load.specs.declared.reading.ObjectFault.TheVariants as faults;
+//! The reader of objects.
 
-use crate::image::{Image, Parts, Text};
-use ss_base::{Bytes, get16, get32};
+ghost use Rattle.std.specs.Prelude.{◌≡◌, ◌+◌, ◌*◌, ◌<◌, ◌≤◌, ◌++◌, ◌↔◌, ℕ, List, [], None, true, length, slice_index, OnOk, IfOk, IfErr, if◌then◌else◌};
+ghost use Rattle.std.specs.List.{AllByRecursion, filter_map, cons_option};
+ghost use Rattle.ecoff_load.specs.Sections.{sections_from, brings_bytes};
+ghost use Rattle.ecoff_load.specs.Object.{IsImage, IsObject, section_bytes};
+ghost use Rattle.ecoff_load.specs.Checks.{refusal, Reads, Gives, Placed};
+ghost use Rattle.ecoff_load.specs.Reading.{InFile, part_of, ReadsBySteps};
+ghost use Rattle.ecoff_load.specs.declared.image.Image.{Image};
+
+use crate::fault::ObjectFault;
+use crate::format::{FRONT, SECTION_HEADER};
+use crate::image::{Image, Kind, Part, Parts, Text};
+use crate::judging::judge;
+use crate::section::Section;
+use crate::words::get_word;
+use ss_base::Bytes;
 use std::alloc::{AllocError, Global};
-use thiserror::Error;
 
-/// Why an object was not read.
-#[derive(Clone, Copy, Debug, PartialEq, Eq, Error)]
-pub enum ObjectFault {
-    /// The bytes are no object, or one of a kind that is not built yet.
-    #[error("no object of a kind that is built")]
-    NotBuilt,
-    /// A growth found no memory.
-    #[error("out of memory")]
-    OutOfMemory,
-}
-
-impl From<AllocError> for ObjectFault {
-    ghost from_gives = { λ _ fault. fault ≡ faults.OutOfMemory };
-
-    fn from(_error: AllocError) -> ObjectFault {
-        ObjectFault::OutOfMemory
-    }
-}
-
-/// The first byte of each field that is read of an object with one section, from the file's start.
-const MAGIC: usize = 0;
-
-const SECTIONS: usize = 2;
-
-const OPTIONAL_SIZE: usize = 16;
-
+/// Where the entry stands in the file.
 const ENTRY: usize = 36;
 
-const ADDRESS: usize = 88;
-
-const SIZE: usize = 92;
-
-const POINTER: usize = 96;
-
-const FLAGS: usize = 112;
-
-/// The bytes of the headers of an object with one section.
-const HEADERS: usize = 116;
-
-/// Reads a little-endian object whose one section is text, as the object format describes it.
-/// `NotBuilt` comes exactly where the bytes are no such object.
-pub fn read(alloc: Global, bytes: &[u8]) -> Result<Image, ObjectFault>
-    ensures value { Reads bytes.now result }
-    ensures image { IfOk result IsImage }
+fn copy(alloc: Global, bytes: &[u8], section: Section) -> Result<Vec<u8>, AllocError>
+    requires { section.pointer + section.size ≤ length bytes.now }
+    ensures { IfOk result (λ copied. copied.items ≡ section_bytes bytes.now section) }
 {
-    if bytes.len() < HEADERS || get16(bytes, MAGIC) != 0x162 || get16(bytes, SECTIONS) != 1 {
-        return Err(ObjectFault::NotBuilt);
+    let from = section.pointer as usize;
+    Vec::from_slice(alloc, &bytes[from..from + section.size as usize])
+}
+
+/// The bytes of a part, none where it starts as zeros.
+fn part_bytes(
+    alloc: Global,
+    bytes: &[u8],
+    section: Section,
+    kind: Kind,
+) -> Result<Vec<u8>, AllocError>
+    requires { brings_bytes kind ≡ true → section.pointer + section.size ≤ length bytes.now }
+    ensures { IfOk result (λ copied. copied.items ≡ (if brings_bytes kind then section_bytes bytes.now section else [])) }
+{
+    if kind.brings_bytes() {
+        copy(alloc, bytes, section)
+    } else {
+        Ok(Vec::new(alloc))
     }
-    if get16(bytes, OPTIONAL_SIZE) != 56 || get32(bytes, FLAGS) != 0x20 {
-        return Err(ObjectFault::NotBuilt);
+}
+
+/// Adds the part that a section is, where it is one.
+fn push_part(
+    parts: &mut Vec<Part>,
+    alloc: Global,
+    bytes: &[u8],
+    section: Section,
+) -> Result<(), AllocError>
+    requires { InFile (length bytes.now) section }
+    ensures { OnOk result (parts.new.items ≡ parts.old.items ++ cons_option (part_of bytes.now section) []) }
+{
+    match section.kind() {
+        None => Ok(()),
+        Some(kind) => {
+            let copied = part_bytes(alloc, bytes, section, kind)?;
+            parts.push(Part {
+                kind,
+                addr: section.addr,
+                size: section.size,
+                bytes: Bytes::from_vec(copied),
+            })?;
+            Ok(())
+        }
     }
-    let start = get32(bytes, ADDRESS);
-    let size = get32(bytes, SIZE) as usize;
-    let from = get32(bytes, POINTER) as usize;
-    if start % 8 != 0 || size < 8 || size > 4194304 {
-        return Err(ObjectFault::NotBuilt);
+}
+
+/// The parts that the sections are.
+fn copy_parts(alloc: Global, bytes: &[u8], big: bool, count: u16) -> Result<Vec<Part>, AllocError>
+    requires headers { 76 + 40 * count ≤ length bytes.now }
+    requires in_file { AllByRecursion (InFile (length bytes.now)) (sections_from big bytes.now count 76) }
+    ensures { IfOk result (λ parts. parts.items ≡ filter_map (part_of bytes.now) (sections_from big bytes.now count 76)) }
+{
+    let mut parts = Vec::new(alloc);
+    let mut at = FRONT;
+    for _ in 0..count {
+        push_part(&mut parts, alloc, bytes, Section::read(bytes, at, big))?;
+        at += SECTION_HEADER;
     }
-    if start as usize + size > 0x7ff00000 || from + size > bytes.len() {
-        return Err(ObjectFault::NotBuilt);
-    }
-    let text = Vec::from_slice(alloc, &bytes[from..from + size])?;
+    Ok(parts)
+}
+
+/// Judges the bytes, and then copies what they bring.
+fn read_judged(alloc: Global, bytes: &[u8]) -> Result<Image, ObjectFault>
+    ensures { ReadsBySteps bytes.now result }
+{
+    let headers = judge(bytes)?;
+    let text = copy(alloc, bytes, headers.text)?;
+    let parts = copy_parts(alloc, bytes, headers.big, headers.count)?;
     Ok(Image {
-        entry: get32(bytes, ENTRY),
+        entry: get_word(bytes, ENTRY, headers.big),
         text: Text {
-            start,
-            big: false,
+            start: headers.text.addr,
+            big: headers.big,
             bytes: Bytes::from_vec(text),
         },
-        parts: Parts::from_vec(Vec::new(alloc)),
+        parts: Parts::from_vec(parts),
     })
 }
+
+/// Reads an object. Memory is taken only once no check fails, and no more than the text and the
+/// parts have bytes in the file.
+pub fn read(alloc: Global, bytes: &[u8]) -> Result<Image, ObjectFault>
+    // What is read is an image of which the bytes are an object; a refusal has the place and the
+    // reason of the first check that fails. Memory is wanted only where no check fails.
+    ensures exact { Reads bytes.now result }
+    // The bytes of an object are read as its image, unless memory runs out.
+    ensures only { (image : Image) → IsObject bytes.now image → Gives result image }
+    // What is read can be run and written.
+    ensures image { IfOk result IsImage }
+    // Only Short stands at the file's end.
+    ensures place { IfErr result (Placed (length bytes.now)) }
+{
+    read_judged(alloc, bytes)
+}
+
+/// No bytes are an object of two images.
+pub fn one_image()
+    ensures { (bytes : List ℕ) (one other : Image) → IsObject bytes one → IsObject bytes other → one ≡ other }
+{}
+
+/// No check of bytes fails exactly where they are an object of an image.
+pub fn checks_are_exact()
+    ensures { (bytes : List ℕ) → ((i : ℕ) → slice_index bytes i < 256) → (refusal bytes ≡ None) ↔ ((image : Image) × IsObject bytes image) }
+{}

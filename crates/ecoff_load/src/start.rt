@@ -1,7 +1,11 @@
+//! The start block of a program.
+
 ghost use Rattle.std.specs.Prelude.{◌≡◌, ◌+◌, ◌*◌, ◌-◌, ◌^◌, ◌≤◌, ◌++◌, List, ℕ, length, map, min, string_bytes, IfOk, IfErr, OnOk};
 ghost use Rattle.std.specs.List.{flat_map, range_with_len};
-ghost use Rattle.ecoff_load.specs.Start.{word_bytes, ended_strings, words_length, pointer_to, block, RefusesStart};
+ghost use Rattle.ecoff_load.specs.Words.{word_bytes};
+ghost use Rattle.ecoff_load.specs.Start.{ended_strings, words_length, pointer_to, block, RefusesStart};
 
+use crate::words::push_word;
 use std::alloc::{AllocError, Global};
 use thiserror::Error;
 
@@ -64,16 +68,6 @@ fn lay_out(alloc: Global, args: &[String], big: bool) -> Result<Vec<u8>, AllocEr
     push_word(&mut bytes, 0, big)?;
     push_strings(&mut bytes, args)?;
     Ok(bytes)
-}
-
-fn push_word(bytes: &mut Vec<u8>, word: u32, big: bool) -> Result<(), AllocError>
-    ensures { OnOk result (bytes.new.items ≡ bytes.old.items ++ word_bytes big word) }
-{
-    if big {
-        bytes.extend_from_slice(&word.to_be_bytes())
-    } else {
-        bytes.extend_from_slice(&word.to_le_bytes())
-    }
 }
 
 fn push_pointers(bytes: &mut Vec<u8>, args: &[String], big: bool) -> Result<(), AllocError>

@@ -1,7 +1,8 @@
 use Rattle.std.proofs.Common.{◌≡◌, ◌++◌, map}
 use Rattle.std.specs.Prelude.{string_bytes}
 use Rattle.std.specs.List.{flat_map, range_with_len}
-use Rattle.ecoff_load.specs.Start.{word_bytes, pointer_to}
+use Rattle.ecoff_load.specs.Words.{word_bytes}
+use Rattle.ecoff_load.specs.Start.{pointer_to}
 use Rattle.ecoff_load.proofs.start.push_pointers.Given as goal
 
 abbrev pub invariant-loop-arg : goal.invariant-loop-arg
