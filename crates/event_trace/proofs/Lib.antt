@@ -6,3 +6,8 @@ pub mod OneRecord
 pub mod WholeTrace
 pub mod Written
 pub mod Places
+pub mod Served
+pub mod ServedRecord
+pub mod Files
+pub mod WorldLawProofs
+pub mod Recording

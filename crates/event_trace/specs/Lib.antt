@@ -1,2 +1,5 @@
 pub mod Grammar
 pub mod Reading
+pub mod World
+pub mod WorldLaws
+pub mod Recorder

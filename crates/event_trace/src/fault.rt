@@ -1,3 +1,4 @@
+//! Why a trace is refused, and where.
 ghost use Rattle.std.specs.Prelude.{◌≡◌};
 ghost use Rattle.event_trace.specs.declared.fault.Stop.TheVariants.{NoMemory};
 

@@ -1,3 +1,4 @@
+//! Reading a trace from its bytes.
 ghost use Rattle.std.specs.Prelude.{◌≡◌, ◌-◌, ◌≤◌, length, IfOk, IfErr, Ok};
 ghost use Rattle.event_trace.specs.declared.trace.Trace.{Trace};
 ghost use Rattle.event_trace.specs.Grammar.{next_record, IsTrace, trace_bytes};

@@ -1,3 +1,4 @@
+//! Reading one record, its head and its lists.
 ghost use Rattle.std.specs.Prelude.{◌≡◌, ◌+◌, ◌-◌, ◌^◌, ◌≤◌, length, OnOk, IfOk};
 ghost use Rattle.ss_base.specs.Text.{double_at};
 ghost use Rattle.event_trace.specs.declared.fault.Stop.TheVariants as stops;

@@ -8,7 +8,7 @@ const ONE: [u8; 52] = [
 ];
 
 /// The same in version 2, of a big-endian run.
-const TWO: [u8; 56] = [
+pub const TWO: [u8; 56] = [
     80, 69, 88, 84, 48, 48, 48, 50, 1, 0, 0, 0, 1, 0, 0, 0, 2, 0, 0, 0, 0, 0, 0, 0, 0x10, 0, 0x40,
     0, 2, 2, 0, 0, 0, 0, 0, 0, 7, 0, 0, 0, 2, 0, 0, 0, 1, 0, 0, 0, 4, 0, 0, 0, 7, 0, 0, 0,
 ];
@@ -37,6 +37,15 @@ fn traces_are_read_and_written_as_they_stood(rt: HostRuntime) -> Result<(), Fail
         }
         assert!(rt; write(rt.alloc(), &trace)?.as_slice() == bytes);
     }
+    let mut longer = Vec::from_slice(rt.alloc(), &ONE)?;
+    longer.push(0)?;
+    assert_eq!(rt;
+        read(rt.alloc(), longer.as_slice()).err(),
+        Some(TraceFault::Bad {
+            at: 52,
+            why: TraceWhy::Extra
+        })
+    );
     let absent = Trace::absent(rt.alloc());
     assert!(rt; absent.agrees(false) && absent.agrees(true));
     let exit = read(rt.alloc(), &ONE)?;
@@ -152,12 +161,21 @@ fn what_is_cut_off_is_short_at_its_end(rt: HostRuntime) {
         );
     }
     // a number of records, low byte first, that the file does not bring
-    for (count, at, why) in [
-        ([0x40, 0x42, 0x0f, 0], 12, TraceWhy::Short),
-        ([0x41, 0x42, 0x0f, 0], 8, TraceWhy::Count),
-        ([0xff, 0xff, 0xff, 0xff], 8, TraceWhy::Count),
+    for (count, at, whole_at, why) in [
+        ([0x40, 0x42, 0x0f, 0], 12, 52, TraceWhy::Short),
+        ([0x41, 0x42, 0x0f, 0], 8, 8, TraceWhy::Count),
+        ([0xff, 0xff, 0xff, 0xff], 8, 8, TraceWhy::Count),
     ] {
         let [a, b, c, d] = count;
+        let mut whole = ONE;
+        whole[8] = a;
+        whole[9] = b;
+        whole[10] = c;
+        whole[11] = d;
+        assert_eq!(rt;
+            read(rt.alloc(), &whole).err(),
+            Some(TraceFault::Bad { at: whole_at, why })
+        );
         let bytes = [80, 69, 88, 84, 48, 48, 48, 49, a, b, c, d];
         assert_eq!(rt;
             read(rt.alloc(), &bytes).err(),

@@ -1,7 +1,8 @@
-ghost use Rattle.std.specs.Prelude.{◌≡◌, ◌≢◌, ◌↔◌, true, false};
+//! What a trace is: records of calls, with what they read and wrote.
+ghost use Rattle.std.specs.Prelude.{◌≡◌, ◌≢◌, ◌↔◌, ◌++◌, [], ◌∷◌, length, true, false, OnOk, OnErr};
 ghost use Rattle.event_trace.specs.Grammar.{absent_trace};
 
-use ss_base::Bytes;
+use ss_base::{Bytes, OutOfMemory};
 use std::alloc::Global;
 use std::marker::Model;
 
@@ -136,6 +137,22 @@ impl Model for Records {
 }
 
 impl Records {
+    /// How many records there are.
+    pub(crate) fn len(&self) -> usize
+        ensures { result ≡ length self.now }
+    {
+        self.items.len()
+    }
+
+    /// Adds a record.
+    pub(crate) fn push(&mut self, call: Record) -> Result<(), OutOfMemory>
+        ensures ok { OnOk result (self.new ≡ self.old ++ call ∷ []) }
+        ensures err { OnErr result (self.new ≡ self.old) }
+    {
+        self.items.push(call)?;
+        Ok(())
+    }
+
     /// The records of a `Vec`.
     pub fn from_vec(items: Vec<Record>) -> Records
         ensures { result ≡ items.items }

@@ -1,3 +1,4 @@
+//! The bytes of a trace.
 ghost use Rattle.std.specs.Prelude.{◌≡◌, ◌++◌, ◌≤◌, [], ◌∷◌, length, OnOk, IfOk};
 ghost use Rattle.std.specs.List.{flat_map};
 ghost use Rattle.event_trace.specs.Grammar.{register_bytes, block_bytes, kind_number, counts_bytes, head_bytes, record_bytes, order_number, order_bytes, start_bytes, trace_bytes, InTurn, IsBlock, next_block, AreBlocks, IsRecord, next_record, IsVersion, IsTrace};
@@ -70,7 +71,7 @@ fn put_head(into: &mut Vec<u8>, call: &Record) -> Result<(), OutOfMemory>
     Ok(())
 }
 
-fn put_record(into: &mut Vec<u8>, call: &Record) -> Result<(), OutOfMemory>
+pub(crate) fn put_record(into: &mut Vec<u8>, call: &Record) -> Result<(), OutOfMemory>
     requires ins { length call.now.ins ≤ 8 }
     requires in_blocks { AreBlocks call.now.in_blocks }
     requires outs { length call.now.outs ≤ 8 }
