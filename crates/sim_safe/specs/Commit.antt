@@ -1,31 +1,120 @@
--- The commit text: a line for each instruction that is done.
-use Rattle.std.specs.Prelude.{◌++◌, ℕ, List, [], ◌∷◌, Option, Some, None, codes, decimal}
-use Rattle.ss_base.specs.Text.{hex8}
+-- The commit text: a line for each instruction that is done; and the output of a run.
+use Rattle.std.specs.Prelude.{◌≡◌, ◌++◌, ℕ, List, [], ◌∷◌, length, Option, Some, None, codes, decimal}
+use Rattle.std.specs.List.{flat_map}
+use Rattle.std.proofs.Common.{refl, sym, ap, ◌∙◌, append_assoc, append-nil}
+use Rattle.ss_base.specs.Text.{hex8, hex_bytes}
 use Rattle.pisa_isa.specs.Texts.{name_of}
-use Rattle.sim_safe.specs.declared.record.CallKind.{CallKind}
-use Rattle.sim_safe.specs.declared.record.CallKind.TheVariants as kind
+use Rattle.pisa_step.specs.declared.changes.MemWrite.{MemWrite}
+use Rattle.event_trace.specs.declared.trace.CallKind.{CallKind}
+use Rattle.event_trace.specs.declared.trace.CallKind.TheVariants as kind
+use Rattle.event_trace.specs.declared.trace.Block.{Block}
+use Rattle.event_trace.specs.declared.trace.Record.{Record}
 use Rattle.sim_safe.specs.declared.record.CallNote.{CallNote}
-use Rattle.sim_safe.specs.Record.{Record}
+use Rattle.sim_safe.specs.declared.record.CommitRecord.{CommitRecord}
+use Rattle.sim_safe.specs.Record.{Item}
+
+-- ---- output
+
+abbrev pub block_bytes : Block → List ℕ
+block_bytes block = block.bytes
+
+-- the bytes that a call of a kind emits: those of its input blocks
+abbrev pub emitted_by : CallKind → Option Record → List ℕ
+emitted_by kind.Plain by = []
+emitted_by kind.Exit by = []
+emitted_by kind.Emit None = []
+emitted_by kind.Emit (Some r) = flat_map block_bytes r.in_blocks
+
+abbrev pub emitted_from : Option CallNote → Option Record → List ℕ
+emitted_from None by = []
+emitted_from (Some note) by = emitted_by note.kind by
+
+abbrev pub output_of : Item → List ℕ
+output_of i = emitted_from i.did.call i.by
+
+-- ---- lines
 
 -- the written registers
 abbrev pub regs_text : List (ℕ × ℕ) → List ℕ
 regs_text [] = []
 regs_text (w ∷ ws) = codes " r" ++ decimal w.0 ++ codes "=" ++ hex8 w.1 ++ regs_text ws
 
-abbrev pub kind_text : CallKind → ℕ → List ℕ
-kind_text kind.Plain code = []
-kind_text kind.Emit code = []
-kind_text kind.Exit code = codes " exit=" ++ decimal code
+abbrev pub hi_text : Option ℕ → List ℕ
+hi_text None = []
+hi_text (Some value) = codes " hi=" ++ hex8 value
 
--- what is noted of a system call
-abbrev pub call_text : Option CallNote → List ℕ
-call_text None = []
-call_text (Some note) = codes " call=" ++ decimal note.used ++ kind_text note.kind note.code
+abbrev pub lo_text : Option ℕ → List ℕ
+lo_text None = []
+lo_text (Some value) = codes " lo=" ++ hex8 value
+
+-- bytes that were written from an address on
+abbrev pub write_text : ℕ → List ℕ → List ℕ
+write_text addr bytes = codes " [" ++ hex8 addr ++ codes "]=" ++ hex_bytes bytes
+
+abbrev pub store_text : Option MemWrite → List ℕ
+store_text None = []
+store_text (Some w) = write_text w.addr w.bytes.items
+
+abbrev pub block_text : Block → List ℕ
+block_text block = write_text block.addr block.bytes
+
+-- the blocks that a recorded call wrote
+abbrev pub blocks_text : Option Record → List ℕ
+blocks_text None = []
+blocks_text (Some r) = flat_map block_text r.out_blocks
+
+abbrev pub kind_text : CallKind → ℕ → ℕ → List ℕ
+kind_text kind.Plain code count = []
+kind_text kind.Emit code count = codes " emit=" ++ decimal count
+kind_text kind.Exit code count = codes " exit=" ++ decimal code
+
+-- what is noted of a call that emits this many bytes
+abbrev pub call_text : Option CallNote → ℕ → List ℕ
+call_text None count = []
+call_text (Some note) count = codes " call=" ++ decimal note.used ++ kind_text note.kind note.code count
 
 -- the number, the address and the name of an instruction
-abbrev pub head_of : Record → List ℕ
+abbrev pub head_of : CommitRecord → List ℕ
 head_of r = decimal r.number ++ codes " " ++ hex8 r.pc ++ codes " " ++ name_of r.instr.op
 
--- the line of a record
-abbrev pub line_of : Record → List ℕ
-line_of r = head_of r ++ regs_text r.regs ++ call_text r.call ++ codes "\n"
+-- what an instruction wrote
+abbrev pub writes_text : Item → List ℕ
+writes_text i = regs_text i.did.regs.items ++ hi_text i.did.hi ++ lo_text i.did.lo ++ store_text i.did.mem ++ blocks_text i.by
+
+-- the line of an instruction
+unfoldable pub line_of : Item → List ℕ
+line_of i = head_of i.did ++ writes_text i ++ call_text i.did.call (length (output_of i)) ++ codes "\n"
+
+-- ---- runs
+
+-- the commit text of a run
+abbrev pub text_of : List Item → List ℕ
+text_of [] = []
+text_of (i ∷ is) = line_of i ++ text_of is
+
+-- the output of a run
+abbrev pub outputs_of : List Item → List ℕ
+outputs_of [] = []
+outputs_of (i ∷ is) = output_of i ++ outputs_of is
+
+-- a history has its newest item first; this is its text
+abbrev pub text_back : List Item → List ℕ
+text_back [] = []
+text_back (i ∷ h) = text_back h ++ line_of i
+
+abbrev pub outputs_back : List Item → List ℕ
+outputs_back [] = []
+outputs_back (i ∷ h) = outputs_back h ++ output_of i
+
+-- a history and then these items, the oldest of them first
+abbrev pub onto : List Item → List Item → List Item
+onto [] h = h
+onto (i ∷ is) h = onto is (i ∷ h)
+
+pub text_onto : (is h : List Item) → text_back (onto is h) ≡ text_back h ++ text_of is
+text_onto [] h = sym (append-nil (text_back h))
+text_onto (i ∷ is) h = text_onto is (i ∷ h) ∙ append_assoc (text_back h) (line_of i) (text_of is)
+
+pub outputs_onto : (is h : List Item) → outputs_back (onto is h) ≡ outputs_back h ++ outputs_of is
+outputs_onto [] h = sym (append-nil (outputs_back h))
+outputs_onto (i ∷ is) h = outputs_onto is (i ∷ h) ∙ append_assoc (outputs_back h) (output_of i) (outputs_of is)

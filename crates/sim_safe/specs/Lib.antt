@@ -1,5 +1,14 @@
 pub mod State
+pub mod Agreement
 pub mod Record
+pub mod Call
 pub mod Step
+pub mod Replay
+pub mod Laws
 pub mod Commit
-pub mod Path
+pub mod Run
+pub mod Recording
+pub mod Observed
+pub mod Advance
+pub mod Statistics
+pub mod Ends

@@ -1,18 +1,24 @@
--- What an instruction did, without where that lies in memory.
-use Rattle.std.specs.Prelude.{ℕ, List, Option}
-use Rattle.pisa_isa.specs.declared.instr.Instr.{Instr}
+-- The record of what an instruction did, and what is observed of it.
+use Rattle.std.specs.Prelude.{◌≡◌, ◌⊎◌, ℕ, List, Bool, true, false, Option, Some, None, slice_get, if◌then◌else◌}
+use Rattle.event_trace.specs.declared.trace.Record.{Record}
+use Rattle.event_trace.specs.declared.trace.Trace.{Trace}
+use Rattle.event_trace.specs.Grammar.{IsTrace, absent_trace}
 use Rattle.sim_safe.specs.declared.record.CallNote.{CallNote}
 use Rattle.sim_safe.specs.declared.record.CommitRecord.{CommitRecord}
 
-pub record Record : Type 0 where
-  pub number : ℕ
-  pub pc : ℕ
-  pub instr : Instr
-  pub next : ℕ
-  -- the written registers with their values
-  pub regs : List (ℕ × ℕ)
-  pub call : Option CallNote
+-- the traces of runs: one that a file brought, or none
+abbrev pub IsRunTrace : Trace → Type 0
+IsRunTrace trace = (trace ≡ absent_trace) ⊎ IsTrace trace
 
--- the record that the program holds
-abbrev pub record_of : CommitRecord → Record
-record_of r = record { number = r.number; pc = r.pc; instr = r.instr; next = r.next; regs = r.regs.items; call = r.call }
+-- an instruction that was done, and the recorded call that it used
+pub record Item : Type 0 where
+  pub did : CommitRecord
+  pub by : Option Record
+
+-- the recorded call that a note tells of
+abbrev pub call_by : Trace → Option CallNote → Option Record
+call_by trace None = None
+call_by trace (Some note) = if trace.file then slice_get trace.records note.used else None
+
+abbrev pub item_of : Trace → CommitRecord → Item
+item_of trace r = record { did = r; by = call_by trace r.call }

@@ -1,149 +1,46 @@
-ghost use Rattle.std.specs.Prelude.{◌≡◌, ◌+◌, ◌-◌, ◌^◌, ◌<◌, ◌≤◌, ◌%◌, List, [], ◌∷◌, IsOkAnd, IfOk, slice_index};
-ghost use Rattle.std.specs.List.{AllByRecursion};
-ghost use Rattle.ecoff_load.specs.Object.{IsImage};
-ghost use Rattle.sim_safe.specs.Record.{record_of};
-ghost use Rattle.sim_safe.specs.State.{State, start_state};
-ghost use Rattle.sim_safe.specs.Path.{Moves, KeepsZero};
-ghost use Rattle.ecoff_load.specs.declared.image.Image.{Image};
-ghost use Rattle.sim_safe.specs.Step.{step_of, outcome_of, Stays, built_of, sign_extended, writes_by, write_of, written, record_at, after, exit_code};
+//! The state of the machine, and what instructions read and write of it.
+ghost use Rattle.std.specs.Prelude.{◌≡◌, ◌+◌, ◌≤◌, ◌^◌, ℕ, length, OnOk, IsOk};
+ghost use Rattle.paged_mem.specs.Memory.{IsReserved, IsRangeReserved};
+ghost use Rattle.std.proofs.Common.{◌∙◌, sym, refl};
+ghost use Rattle.pisa_step.specs.declared.changes.TextRange.{TextRange};
+ghost use Rattle.pisa_step.specs.Memory.{meets};
+ghost use Rattle.pisa_step.specs.Reader.{with_bytes};
+ghost use Rattle.sim_safe.specs.State.{reader_of, state_of, range_of, HasRoom, Agrees};
+ghost use Rattle.sim_safe.specs.Agreement.{agrees_same, agrees_sym, agrees_trans};
 
-use crate::record::{CallKind, CallNote, Cause, CommitRecord, Stepped};
-use arrayvec::ArrayVec;
-use ecoff_load::{Image, StartFault, Text};
-use pisa_isa::{Instr, decode};
+use ecoff_load::Text;
+use paged_mem::PagedMem;
+use pisa_step::{Machine, TextRange};
 use ss_base::OutOfMemory;
-use std::alloc::Global;
 use std::marker::Model;
 
-/// The state of the machine. Contracts see it as the definition's state.
-#[derive(Debug, Drop)]
+/// The state of the machine. Contracts see what it holds, and by `state_of` the definition's state.
+#[derive(Drop)]
 pub struct Arch {
-    pc: u32,
-    regs: [u32; 32],
-    hi: u32,
-    lo: u32,
-    icnt: u64,
-    ended: Option<u32>,
-    text: Text,
+    pub(crate) pc: u32,
+    /// Registers 1 to 31. Register 0 is 0 and isn't kept.
+    pub(crate) regs: [u32; 31],
+    pub(crate) hi: u32,
+    pub(crate) lo: u32,
+    pub(crate) mem: PagedMem,
+    pub(crate) icnt: u64,
+    pub(crate) used: u32,
+    pub(crate) ended: Option<u32>,
+    pub(crate) text: Text,
 }
 
 impl Model for Arch {
-    ghost use Rattle.sim_safe.specs.State.{State};
+    ghost use Rattle.sim_safe.specs.State.{Storage};
     ghost use Rattle.ecoff_load.specs.Object.{IsText};
 
-    ghost Value = { State };
+    ghost Value = { Storage };
 
-    ghost view = { λ a. record { pc = a.pc; regs = a.regs; hi = a.hi; lo = a.lo; icnt = a.icnt; ended = a.ended; text = a.text } };
+    ghost view = { λ a. record { pc = a.pc; regs = a.regs; hi = a.hi; lo = a.lo; pages = a.mem; icnt = a.icnt; used = a.used; ended = a.ended; text = a.text } };
 
     ghost invariant = { λ a. IsText a.text };
 }
 
-/// The operations that are built.
-#[derive(Clone, Copy, Debug, PartialEq, Eq)]
-pub(crate) enum Built {
-    Nop,
-    Addu,
-    Addiu,
-    Syscall,
-}
-
-/// The operation with this number, where it is built.
-fn find_built(number: u16) -> Option<Built>
-    ensures { result ≡ built_of number }
-{
-    match number {
-        0x00 => Some(Built::Nop),
-        0x42 => Some(Built::Addu),
-        0x43 => Some(Built::Addiu),
-        0xa0 => Some(Built::Syscall),
-        _ => None,
-    }
-}
-
-/// One register write, none of register 0.
-fn one_write(register: u8, value: u32) -> ArrayVec<(u8, u32), 8>
-    ensures { result.items ≡ write_of register value }
-{
-    let mut writes = ArrayVec::new();
-    if register != 0 {
-        writes.push((register, value));
-    }
-    writes
-}
-
-/// A 16-bit number with its sign, modulo 2^32.
-fn sign_extend(imm: u16) -> u32
-    ensures { result ≡ sign_extended imm }
-{
-    let low = u32::from(imm);
-    if low < 0x8000 { low } else { low + 0xffff_0000 }
-}
-
-/// The register writes of an instruction.
-fn writes(operation: Built, regs: &[u32; 32], i: &Instr) -> ArrayVec<(u8, u32), 8>
-    requires rs { i.now.rs < 32 }
-    requires rt { i.now.rt < 32 }
-    ensures { result.items ≡ writes_by operation regs.now i.now }
-{
-    match operation {
-        Built::Nop | Built::Syscall => ArrayVec::new(),
-        Built::Addu => {
-            let sum = regs[i.rs as usize].wrapping_add(regs[i.rt as usize]);
-            one_write(i.rd, sum)
-        }
-        Built::Addiu => {
-            let sum = regs[i.rs as usize].wrapping_add(sign_extend(i.imm));
-            one_write(i.rt, sum)
-        }
-    }
-}
-
-/// The exit code of a call.
-fn code_of(call: Option<CallNote>) -> Option<u32>
-    ensures { result ≡ exit_code call }
-{
-    match call {
-        Some(note) => Some(note.code),
-        None => None,
-    }
-}
-
-/// Writes registers.
-fn write_regs(regs: &mut [u32; 32], writes: &[(u8, u32)])
-    requires { AllByRecursion (λ w. w.0 < 32) writes.now }
-    ensures { regs.new ≡ written regs.old writes.now }
-{
-    for (register, value) in writes {
-        regs[*register as usize] = *value;
-    }
-}
-
 impl Arch {
-    /// The state in which a program starts.
-    ///
-    /// Neither fault comes today: the arguments are not put into memory yet.
-    pub fn start(_alloc: Global, image: Image, _args: &[String]) -> Result<Arch, StartFault>
-        requires { IsImage image }
-        ensures { IsOkAnd result (λ arch. arch ≡ start_state image) }
-    {
-        let Image {
-            entry,
-            text,
-            parts: _,
-        } = image;
-        let mut regs = [0; 32];
-        regs[29] = 0x7fff_8000;
-        Ok(Arch {
-            pc: entry,
-            regs,
-            hi: 0,
-            lo: 0,
-            icnt: 0,
-            ended: None,
-            text,
-        })
-    }
-
     /// The address of the next instruction.
     pub fn pc(&self) -> u32
         ensures { result ≡ self.now.pc }
@@ -158,6 +55,13 @@ impl Arch {
         self.icnt
     }
 
+    /// How many recorded calls were used.
+    pub fn used(&self) -> u32
+        ensures { result ≡ self.now.used }
+    {
+        self.used
+    }
+
     /// The exit code, `None` exactly before an exit.
     pub fn ended(&self) -> Option<u32>
         ensures { result ≡ self.now.ended }
@@ -165,76 +69,125 @@ impl Arch {
         self.ended
     }
 
-    /// Does the next instruction, or nothing.
-    ///
-    /// A step that stops, or whose operation is not built, leaves the state as it was. Want of
-    /// memory does not come today.
-    pub fn step(&mut self) -> Result<Stepped, OutOfMemory>
-        requires { self.old.icnt + 1 < 2 ^ 62 }
-        ensures step { IsOkAnd result (λ r. outcome_of r self.new ≡ step_of self.old) }
-        ensures same { IfOk result (λ r. Stays r self.old self.new) }
+    /// The program's text.
+    pub fn text(&self) -> &Text
+        ensures { result.now ≡ self.now.text }
     {
-        if let Some(code) = self.ended {
-            return Ok(Stepped::Stop(Cause::Exited { code }));
-        }
-        let Some((first, second)) = self.text.at(self.pc) else {
-            return Ok(Stepped::Stop(Cause::BadFetch));
-        };
-        let number = (first % 0x1_0000) as u16;
-        let Some(operation) = find_built(number) else {
-            return Ok(Stepped::NotBuilt { number });
-        };
-        let Ok(instr) = decode(first, second) else {
-            return Ok(Stepped::Stop(Cause::Illegal));
-        };
-        let Built::Syscall = operation else {
-            return Ok(Stepped::Did(self.execute(operation, instr, None)));
-        };
-        if self.regs[2] != 1 {
-            return Ok(Stepped::Stop(Cause::TraceEnd { used: 0 }));
-        }
-        let note = CallNote {
-            used: 0,
-            kind: CallKind::Exit,
-            code: self.regs[4],
-        };
-        Ok(Stepped::Did(self.execute(operation, instr, Some(note))))
+        &self.text
     }
 
-    /// Does an instruction.
-    fn execute(&mut self, operation: Built, instr: Instr, call: Option<CallNote>) -> CommitRecord
-        requires room { self.old.icnt + 1 < 2 ^ 62 }
-        requires rs { instr.rs < 32 }
-        requires rt { instr.rt < 32 }
-        requires rd { instr.rd < 32 }
-        ensures record { record_of result ≡ record_at self.old operation instr call }
-        ensures after { self.new ≡ after self.old (record_of result) }
+    /// The whole memory, with the text's bytes in it.
+    pub fn mem(&self) -> &PagedMem
+        ensures { result.now ≡ self.now.pages }
     {
-        let regs = writes(operation, &self.regs, &instr);
-        let did = CommitRecord {
-            number: self.icnt,
-            pc: self.pc,
-            instr,
-            next: self.pc.wrapping_add(8),
-            regs,
-            call,
-        };
-        write_regs(&mut self.regs, &did.regs);
-        self.pc = did.next;
-        self.icnt += 1;
-        self.ended = code_of(call);
-        did
+        &self.mem
+    }
+
+    /// The addresses of the text, which are never written.
+    pub(crate) fn text_range(&self) -> TextRange
+        ensures { result ≡ range_of self.now.text }
+    {
+        let start = self.text.start;
+        TextRange {
+            start,
+            end: start + self.text.bytes.as_slice().len() as u32,
+        }
+    }
+
+    /// Whether one of so many bytes from an address on lies in text.
+    pub(crate) fn meets_text(&self, addr: u32, count: usize) -> bool
+        requires { addr + count ≤ 2 ^ 32 }
+        ensures { result ≡ meets (range_of self.now.text) addr count }
+    {
+        let text = self.text_range();
+        let end = u64::from(addr) + count as u64;
+        u64::from(addr.max(text.start)) < end.min(u64::from(text.end))
+    }
+
+    /// Reserves the pages of a range, where they aren't reserved.
+    pub(crate) fn reserve(&mut self, addr: u32, len: u32) -> Result<(), OutOfMemory>
+        requires { addr + len ≤ 2 ^ 32 }
+        ensures state { state_of self.new ≡ state_of self.old }
+        ensures kept { (number : ℕ) → IsReserved self.old.pages number → IsReserved self.new.pages number }
+        ensures ok { OnOk result (IsRangeReserved self.new.pages addr len) }
+        ensures held { IsRangeReserved self.old.pages addr len → IsOk result }
+    {
+        if self.mem.reserved(addr, len) {
+            return Ok(());
+        }
+        self.mem.reserve(addr, len)
+    }
+
+    /// Writes bytes from an address on, in reserved pages.
+    pub(crate) fn write(&mut self, addr: u32, bytes: &[u8])
+        requires range { addr + length bytes.now ≤ 2 ^ 32 }
+        requires held { IsRangeReserved self.old.pages addr (length bytes.now) }
+        ensures reads { reader_of self.new ≡ with_bytes (reader_of self.old) addr bytes.now }
+        ensures agrees { Agrees self.old self.new }
+    {
+        self.mem.write(addr, bytes);
     }
 }
 
-/// No path goes backwards today: each step that does an instruction leads eight bytes on in the
-/// same text, and only from an instruction that is whole in it.
-pub fn steps_lead_on()
-    ensures { (s : State) → Moves s (step_of s) }
-{}
+impl Machine for Arch {
+    ghost reads = { reader_of };
 
-/// Register 0 is 0 at the start and stays 0 over each step.
-pub fn register_0_is_0()
-    ensures start { (image : Image) → slice_index (start_state image).regs 0 ≡ 0 }
-    ensures step { (s : State) → KeepsZero s (step_of s) }
-{}
+    ghost has_room = { HasRoom };
+
+    ghost agrees = { Agrees };
+
+    ghost zero_reads_zero = { λ m. refl };
+
+    ghost agrees_with_itself = { agrees_same };
+
+    ghost agrees_back = { agrees_sym };
+
+    ghost agrees_in_turn = { agrees_trans };
+
+    fn reg(&self, r: u8) -> u32 {
+        if r == 0 { 0 } else { self.regs[r as usize - 1] }
+    }
+
+    fn hi(&self) -> u32 {
+        self.hi
+    }
+
+    fn lo(&self) -> u32 {
+        self.lo
+    }
+
+    fn byte(&self, addr: u32) -> u8 {
+        self.mem.byte(addr)
+    }
+
+    fn big(&self) -> bool {
+        self.text.big
+    }
+
+    /// Whether the range is reserved and meets no text.
+    #[tactic(auto, using(crate::proofs::Rooms::no_room, crate::proofs::Rooms::has_room))]
+    fn room(&self, addr: u32, len: u32) -> bool {
+        if self.meets_text(addr, len as usize) {
+            return false;
+        }
+        self.mem.reserved(addr, len)
+    }
+
+    fn set_reg(&mut self, r: u8, v: u32) {
+        if r != 0 {
+            self.regs[r as usize - 1] = v;
+        }
+    }
+
+    fn set_hi(&mut self, v: u32) {
+        self.hi = v;
+    }
+
+    fn set_lo(&mut self, v: u32) {
+        self.lo = v;
+    }
+
+    fn set_bytes(&mut self, addr: u32, bytes: &[u8]) {
+        self.write(addr, bytes);
+    }
+}

@@ -1,17 +1,34 @@
 //! The functional machine: a program run one instruction at a time.
 //!
-//! `Arch` is the state of the machine. `step` does the next instruction and answers what it did,
-//! or why nothing was done; that this is the step of the definition is its contract, and a step
-//! that stops leaves the state as it was. `commit_line` writes what an instruction did as a line
-//! of the commit text. Built today are NOP, ADDU, ADDIU and SYSCALL.
+//! `Arch` is the state of the machine. `start` gives the state in which a program starts; `step`
+//! does the next instruction or stops, exactly as the definition says, and `peek` tells which; `run`
+//! does many steps and shows each record to an observer; `record` does the same while the closed
+//! world answers the system calls, and leaves the trace over which `run` does it again.
+//! `commit_line`, `push_end` and `Statistics` give the texts and counts of a run.
 #![tactic(auto)]
 
 mod arch;
+mod call;
 mod commit;
+mod ends;
+mod laws;
+mod observer;
+mod peek;
 mod record;
+mod recording;
+mod start;
+mod statistics;
+mod step;
 #[cfg(test)]
 mod tests;
+#[cfg(test)]
+mod texts_tests;
 
-pub use arch::{Arch, register_0_is_0, steps_lead_on};
-pub use commit::commit_line;
-pub use record::{CallKind, CallNote, Cause, CommitRecord, Stepped};
+pub use arch::Arch;
+pub use commit::{commit_line, emitted};
+pub use ends::push_end;
+pub use laws::steps_keep;
+pub use observer::{Meaning, Observer, RunEnd, RunFault};
+pub use record::{CallNote, CommitRecord, Peek, Stepped};
+pub use recording::RecordEnd;
+pub use statistics::Statistics;

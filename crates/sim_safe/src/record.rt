@@ -1,43 +1,22 @@
+//! What an instruction did, and what a step answers.
 use arrayvec::ArrayVec;
+use event_trace::CallKind;
 use pisa_isa::Instr;
-
-/// Why a run stops.
-#[derive(Clone, Copy, Debug, PartialEq, Eq)]
-pub enum Cause {
-    /// The program exited by a call, with this code.
-    Exited { code: u32 },
-    /// No instruction of the text begins at the program counter.
-    BadFetch,
-    /// The two words at the program counter code no instruction.
-    Illegal,
-    /// A call found no recorded call that is left; this many were used.
-    TraceEnd { used: u32 },
-}
-
-/// What a system call does besides its outputs.
-#[derive(Clone, Copy, Debug, PartialEq, Eq)]
-pub enum CallKind {
-    /// Nothing.
-    Plain,
-    /// Its input bytes are added to the program's output.
-    Emit,
-    /// The program ends.
-    Exit,
-}
+use pisa_step::{Cause, MemWrite};
 
 /// What is noted of a system call.
 #[derive(Clone, Copy, Debug, PartialEq, Eq)]
 pub struct CallNote {
-    /// The number of its record.
+    /// The number of its record, counted from 0; 0 where there is no trace.
     pub used: u32,
-    /// What it does.
+    /// What it does besides its reads and writes.
     pub kind: CallKind,
     /// The exit code, 0 where it is no exit.
     pub code: u32,
 }
 
 /// What an instruction did.
-#[derive(Debug, Drop)]
+#[derive(Debug, PartialEq, Eq, Drop)]
 pub struct CommitRecord {
     /// How many instructions were done before it.
     pub number: u64,
@@ -47,19 +26,38 @@ pub struct CommitRecord {
     pub instr: Instr,
     /// The address of the next instruction.
     pub next: u32,
-    /// The registers that it wrote and their values, rising, without register 0.
+    /// It is a jump, or a branch whose condition holds.
+    pub taken: bool,
+    /// The registers that it wrote with their values: numbers from 1 to 31, rising.
     pub regs: ArrayVec<(u8, u32), 8>,
-    /// What is noted of it where it is a system call.
+    /// The value that HI got.
+    pub hi: Option<u32>,
+    /// The value that LO got.
+    pub lo: Option<u32>,
+    /// What a store wrote to memory.
+    pub mem: Option<MemWrite>,
+    /// The effective address of a load or store.
+    pub access: Option<u32>,
+    /// What is noted of a system call. The blocks that it wrote stay in the trace.
     pub call: Option<CallNote>,
 }
 
+/// What the next step does.
+#[derive(Clone, Copy, Debug, PartialEq, Eq)]
+pub enum Peek {
+    /// It does this instruction, which is no system call.
+    Plain(Instr),
+    /// It does a system call, of which this is noted.
+    Call(CallNote),
+    /// It stops.
+    Stop(Cause),
+}
+
 /// What a step did.
-#[derive(Debug, Drop)]
+#[derive(Debug, PartialEq, Eq, Drop)]
 pub enum Stepped {
     /// An instruction was done.
     Did(CommitRecord),
     /// Nothing was done, for this cause.
     Stop(Cause),
-    /// Nothing was done, since the operation with this number is not built yet.
-    NotBuilt { number: u16 },
 }

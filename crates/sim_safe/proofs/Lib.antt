@@ -1,0 +1,14 @@
+pub mod Steps
+pub mod Runs
+pub mod Calls
+pub mod Growing
+pub mod Keeping
+pub mod Lists
+pub mod NoMemory
+pub mod Records
+pub mod Rooms
+pub mod Serving
+pub mod Starting
+pub mod OutputLength
+pub mod Parts
+pub mod Recorded

@@ -1,0 +1,17 @@
+use Rattle.std.proofs.Common.{◌≡◌, ◌+◌, List}
+use Rattle.sim_safe.specs.Record.{Item}
+use Rattle.sim_safe.specs.Commit.{onto}
+use Rattle.sim_safe.specs.State.{state_of}
+use Rattle.sim_safe.specs.Run.{items_of}
+use Rattle.sim_safe.proofs.Steps.{Reaches}
+use Rattle.sim_safe.proofs.arch.Arch.run.Given as goal
+
+abbrev pub invariant-loop-done : goal.invariant-loop-done
+invariant-loop-done g l =
+    let O = g.O.Observer in
+    record {
+      reaches : Reaches l.trace l.done (state_of l.fn.self) (state_of l.self);
+      icnt : l.self.icnt ≡ l.fn.self.icnt + l.done;
+      took : (start : g.row.O.Denot) (h : List Item) → O.took start h l.fn.o → O.took start (onto (items_of l.trace l.done (state_of l.fn.self)) h) l.o;
+      count : O.faults l.o ≡ O.faults l.fn.o;
+    }

@@ -1,0 +1,86 @@
+-- Runs that are recorded: a trace that grows by a record for each call that finds none left.
+use Rattle.std.specs.Prelude.{◌≡◌, ◌-◌, ◌<◌, ◌≤◌, ℕ, zero, suc, Bool, true, false, [], ◌∷◌, Option, Some, None, Result, Ok, Err, if◌then◌else◌}
+use Rattle.pisa_step.specs.declared.cause.Cause.{Cause}
+use Rattle.pisa_step.specs.declared.cause.Cause.TheVariants as cause
+use Rattle.event_trace.specs.declared.trace.Record.{Record}
+use Rattle.event_trace.specs.declared.trace.Trace.{Trace}
+use Rattle.event_trace.specs.World.{WorldState, served}
+use Rattle.event_trace.specs.Recorder.{RecorderState, with_more, is_within_limits}
+use Rattle.ss_base.specs.declared.fault.OutOfMemory.{OutOfMemory}
+use Rattle.sim_safe.specs.declared.observer.RunEnd.{RunEnd}
+use Rattle.sim_safe.specs.declared.observer.RunEnd.TheVariants as ends
+use Rattle.sim_safe.specs.declared.observer.RunFault.{RunFault}
+use Rattle.sim_safe.specs.declared.observer.RunFault.TheVariants as faults
+use Rattle.sim_safe.specs.declared.recording.RecordEnd.{RecordEnd}
+use Rattle.sim_safe.specs.declared.recording.RecordEnd.TheVariants as record_ends
+use Rattle.sim_safe.specs.declared.record.Peek.{Peek}
+use Rattle.sim_safe.specs.declared.record.Peek.TheVariants as peek
+use Rattle.sim_safe.specs.State.{State}
+use Rattle.sim_safe.specs.Step.{Outcome, Next, Halt, step_of}
+use Rattle.sim_safe.specs.Run.{after, end_of}
+
+-- a step stops since no record is left for its call
+abbrev pub is_trace_end : Cause → Bool
+is_trace_end (cause.TraceEnd used) = true
+is_trace_end _ = false
+
+abbrev pub wants_record : Outcome → Bool
+wants_record (Next r s) = false
+wants_record (Halt why) = is_trace_end why
+
+-- what there is before a step: a world, and a trace that has the record of its call; or the trace is
+-- full, since the record that the world serves would bring it above its limits
+abbrev pub taken : {W : Type 0} → Trace → Record × W → Option (W × Trace)
+taken t answer = if is_within_limits (with_more t (answer.0 ∷ [])) then Some (answer.1, with_more t (answer.0 ∷ [])) else None
+
+abbrev pub ready_if : {W : Type 0} → (W → State → Record × W) → W → Trace → State → Bool → Option (W × Trace)
+ready_if serve w t s false = Some (w, t)
+ready_if serve w t s true = taken t (serve w s)
+
+unfoldable pub ready : {W : Type 0} → (W → State → Record × W) → W → Trace → State → Option (W × Trace)
+ready serve w t s = ready_if serve w t s (wants_record (step_of t s))
+
+-- the trace that up to n steps leave, and whether it was full before one of them
+abbrev pub recording_after : (Trace → State → Trace × Bool) → Trace → Outcome → Trace × Bool
+recording_after rest t (Next r u) = rest t u
+recording_after rest t (Halt why) = (t, false)
+
+abbrev pub recording_at : {W : Type 0} → (W → Trace → State → Trace × Bool) → Trace → State → Option (W × Trace) → Trace × Bool
+recording_at rest old s (Some m) = recording_after (rest m.0) m.1 (step_of m.1 s)
+recording_at rest old s None = (old, true)
+
+unfoldable pub recording : {W : Type 0} → (W → State → Record × W) → ℕ → W → Trace → State → Trace × Bool
+recording serve zero w t s = (t, false)
+recording serve (suc n) w t s = recording_at (recording serve n) t s (ready serve w t s)
+
+-- the record that the closed world gives of a call in a state, and the world after it
+abbrev pub serve : WorldState → State → Record × WorldState
+serve w s = served w s.icnt s.pc s.reads.regs s.reads.bytes
+
+-- ---- answers
+
+-- what the next step does is a call for which no record is left
+abbrev pub is_end_of_trace : Peek → Bool
+is_end_of_trace (peek.Plain i) = false
+is_end_of_trace (peek.Call note) = false
+is_end_of_trace (peek.Stop why) = is_trace_end why
+
+-- a recorder is ready for the next step, or its trace is full
+abbrev pub Prepares : RecorderState → RecorderState → State → Result Bool OutOfMemory → Type 0
+Prepares old new s (Ok true) = ready serve old.world old.trace s ≡ Some (new.world, new.trace)
+Prepares old new s (Ok false) = (ready serve old.world old.trace s ≡ None) × (new.trace ≡ old.trace)
+Prepares old new s (Err _) = new.trace ≡ old.trace
+
+-- the trace that was made where the run wasn't given up
+abbrev pub Records : {F : Type 0} → ℕ → RecorderState → State → RecorderState → Result RecordEnd (RunFault F) → Type 0
+Records n old s new (Ok (record_ends.Run e)) = recording serve n old.world old.trace s ≡ (new.trace, false)
+Records n old s new (Ok record_ends.Full) = recording serve n old.world old.trace s ≡ (new.trace, true)
+Records n old s new (Err f) = Unit {0}
+
+-- the state and the end, which are those of the run over the trace that was made; where that was full,
+-- the run over it stops at a call for which no record is left
+abbrev pub RecordState : {F : Type 0} → Trace → ℕ → State → State → Result RecordEnd (RunFault F) → Type 0
+RecordState trace n s t (Ok (record_ends.Run e)) = (t ≡ after trace n s) × (e ≡ end_of trace n s)
+RecordState trace n s t (Ok record_ends.Full) = (t ≡ after trace n s) × (used : ℕ) × (end_of trace n s ≡ ends.Stop (cause.TraceEnd used))
+RecordState trace n s t (Err (faults.Watch f)) = (t ≡ after trace (t.icnt - s.icnt) s) × (t.icnt - s.icnt ≤ n) × (s.icnt < t.icnt)
+RecordState trace n s t (Err faults.OutOfMemory) = (t ≡ after trace (t.icnt - s.icnt) s) × (t.icnt - s.icnt ≤ n)

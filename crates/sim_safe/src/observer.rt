@@ -1,0 +1,130 @@
+//! Runs of many steps, and those who watch them.
+ghost use Rattle.std.specs.Prelude.{◌≡◌, ◌+◌, ◌^◌, ◌<◌, ℕ, List, [], ◌∷◌};
+ghost use Rattle.sim_safe.specs.declared.observer.Meaning.{Meaning};
+ghost use Rattle.sim_safe.specs.Record.{Item, IsRunTrace, item_of};
+ghost use Rattle.sim_safe.specs.Observed.{SawCounts, Saw, RunCounts, RunTook, RunState};
+ghost use Rattle.sim_safe.specs.Advance.{AdvanceCounts, AdvanceState, AdvanceTook};
+ghost use Rattle.sim_safe.specs.State.{state_of};
+
+use crate::arch::Arch;
+use crate::record::{CommitRecord, Stepped};
+use event_trace::Trace;
+use pisa_step::Cause;
+
+/// What a fault of an observer comes from.
+#[derive(Clone, Copy, Debug, PartialEq, Eq)]
+pub enum Meaning {
+    /// A call of the shelf failed.
+    Shelf,
+    /// A put to a stream failed.
+    Sink,
+    /// A growth found no memory.
+    Memory,
+}
+
+/// Watches a run: it is shown the record of each instruction that is done, in order.
+pub trait Observer {
+    /// Why it can't go on.
+    type Fault;
+
+    /// From the first value to the last it has taken this list, newest item first.
+    ghost took: { Self → List Item → Self → Type 0 };
+
+    /// From the first value to the last it was cut within this list.
+    ghost cut: { Self → List Item → Self → Type 0 };
+
+    /// How often the shelf failed, and how often the streams did.
+    ghost faults: { Self → ℕ × ℕ };
+
+    /// What a fault comes from.
+    ghost means: { Self.Fault → Meaning };
+
+    /// Takes the record of an instruction that was done over a trace.
+    fn saw(&mut self, r: &CommitRecord, trace: &Trace) -> Result<(), Self::Fault>
+        requires { IsRunTrace trace.now }
+        ensures took { (start : Self) (h : List Item) → took start h self.old → Saw took cut start (item_of trace.now r.now ∷ h) self.new result }
+        ensures count { SawCounts means (faults self.old) (faults self.new) result };
+
+    /// A value that has taken nothing is as it was.
+    ghost took_none: { (o : Self) → took o [] o };
+}
+
+/// How a run ends.
+#[derive(Clone, Copy, Debug, PartialEq, Eq)]
+pub enum RunEnd {
+    /// As many instructions were done as it may do, and the last was no exit.
+    Limit,
+    /// It stopped.
+    Stop(Cause),
+}
+
+/// Why a run was given up.
+#[derive(Clone, Copy, Debug, PartialEq, Eq, Drop)]
+pub enum RunFault<F> {
+    /// The observer couldn't go on.
+    Watch(F),
+    /// A growth found no memory.
+    OutOfMemory,
+}
+
+/// What one step of a run comes to.
+#[derive(Drop)]
+pub(crate) enum Advance<F> {
+    Going,
+    Ended(Cause),
+    Failed(RunFault<F>),
+}
+
+impl Arch {
+    /// Does one step, and shows it to an observer.
+    pub(crate) fn advance<O: Observer>(&mut self, trace: &Trace, o: &mut O) -> Advance<O::Fault>
+        requires count { self.old.icnt + 1 < 2 ^ 62 }
+        requires trace { IsRunTrace trace.now }
+        ensures took { (start : O) (h : List Item) → O.took start h o.old → AdvanceTook O.took O.cut trace.now (state_of self.old) (state_of self.new) start h o.new result }
+        ensures state { AdvanceState trace.now (state_of self.old) (state_of self.new) result }
+        ensures count { AdvanceCounts O.means (O.faults o.old) (O.faults o.new) result }
+    {
+        match self.step(trace) {
+            Err(_) => Advance::Failed(RunFault::OutOfMemory),
+            Ok(Stepped::Stop(cause)) => Advance::Ended(cause),
+            Ok(Stepped::Did(record)) => match o.saw(&record, trace) {
+                Ok(()) => Advance::Going,
+                Err(fault) => Advance::Failed(RunFault::Watch(fault)),
+            },
+        }
+    }
+
+    /// Does up to `n` steps over a trace, and shows each instruction that is done to an observer.
+    ///
+    /// `Limit` comes exactly where `n` instructions were done and the last was no exit, or `n` is 0.
+    /// After a fault the state is that after the steps that were done; the observer has taken
+    /// their records, and where it failed itself, all but the last.
+    #[tactic(auto, using(crate::proofs::Steps::items_none, crate::proofs::Steps::reaches_none, crate::proofs::Steps::reaches_on, crate::proofs::Steps::onto_on, crate::proofs::Steps::items_stop, crate::proofs::Steps::after_stop, crate::proofs::Steps::end_stop, crate::proofs::Steps::after_all, crate::proofs::Steps::end_all))]
+    pub fn run<O: Observer>(
+        &mut self,
+        trace: &Trace,
+        n: u64,
+        o: &mut O,
+    ) -> Result<RunEnd, RunFault<O::Fault>>
+        requires count { self.old.icnt + n < 2 ^ 62 }
+        requires trace { IsRunTrace trace.now }
+        ensures took { (start : O) (h : List Item) → O.took start h o.old → RunTook O.took O.cut trace.now n (state_of self.old) (state_of self.new) start h o.new result }
+        ensures state { RunState trace.now n (state_of self.old) (state_of self.new) result }
+        ensures count { RunCounts O.means (O.faults o.old) (O.faults o.new) result }
+    {
+        if n == 0 {
+            return Ok(RunEnd::Limit);
+        }
+        for done in 0..n {
+            match self.advance(trace, o) {
+                Advance::Going => {}
+                Advance::Ended(cause) => return Ok(RunEnd::Stop(cause)),
+                Advance::Failed(fault) => return Err(fault),
+            }
+        }
+        match self.ended() {
+            Some(code) => Ok(RunEnd::Stop(Cause::Exited { code })),
+            None => Ok(RunEnd::Limit),
+        }
+    }
+}
