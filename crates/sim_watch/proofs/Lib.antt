@@ -1,0 +1,4 @@
+mod Texts
+mod Countable
+mod Totals
+mod Whole

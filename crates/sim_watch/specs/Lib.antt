@@ -1,0 +1,5 @@
+pub mod Gets
+pub mod Watch
+pub mod Statistics
+pub mod Run
+pub mod Parts
