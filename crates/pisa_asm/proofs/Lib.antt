@@ -1,0 +1,15 @@
+pub mod Trims
+pub mod Numerals
+pub mod Pieces
+pub mod Judging
+pub mod Strings
+pub mod OperandTexts
+pub mod Turns
+pub mod Laying
+pub mod RoundNumbers
+pub mod RoundTokens
+pub mod RoundSlots
+pub mod RoundNames
+pub mod RoundLines
+pub mod Targets
+pub mod RoundSources

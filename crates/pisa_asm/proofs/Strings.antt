@@ -1,0 +1,13 @@
+-- Reading a string byte by byte.
+use Rattle.std.proofs.Common.{◌≡◌, ◌++◌, ◌∙◌, ℕ, List, [], ◌∷◌, Result, Ok, Err, refl, ap, append_assoc}
+use Rattle.pisa_asm.specs.declared.fault.TextWhy.{TextWhy}
+use Rattle.pisa_asm.specs.Statements.{onto}
+
+-- bytes that were read before, and those that follow
+abbrev pub with_front : List ℕ → Result (List ℕ) TextWhy → Result (List ℕ) TextWhy
+with_front front (Ok bs) = Ok (front ++ bs)
+with_front front (Err w) = Err w
+
+pub front_onto : (front : List ℕ) (b : ℕ) (r : Result (List ℕ) TextWhy) → with_front front (onto b r) ≡ with_front (front ++ b ∷ []) r
+front_onto front b (Ok bs) = simp append_assoc
+front_onto front b (Err w) = refl

@@ -1,0 +1,11 @@
+pub mod Letters
+pub mod Tokens
+pub mod Operands
+pub mod Statements
+pub mod Printed
+pub mod Sheets
+pub mod LabelMaps
+pub mod Passes
+pub mod Kept
+pub mod Views
+pub mod Rounds
