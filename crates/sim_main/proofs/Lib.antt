@@ -1,3 +1,7 @@
+pub mod Endings
+pub mod Loads
+pub mod Judged
 pub mod Runs
-pub mod Ends
-pub mod Outcomes
+pub mod Leaves
+pub mod Unique
+pub mod Grown

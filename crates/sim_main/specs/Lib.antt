@@ -1,4 +1,5 @@
-pub mod Run
-pub mod Writing
-pub mod Request
+pub mod Ending
+pub mod Report
 pub mod Outcome
+pub mod Answer
+pub mod Steps

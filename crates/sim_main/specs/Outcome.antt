@@ -1,199 +1,152 @@
--- How commands end, and what they write.
-use Rattle.std.specs.Prelude.{◌≡◌, ◌<◌, ◌≤◌, ◌⊎◌, ℕ, List, length, Option, Some, None}
-use Rattle.ss_base.specs.Outside.{Files, bytes_at, BeginsWith, SameFiles, OthersStay, Rose}
-use Rattle.ecoff_load.specs.Object.{IsOneText, IsObject, IsImage, image_at}
-use Rattle.sim_safe.specs.declared.record.Cause.{Cause}
-use Rattle.sim_safe.specs.declared.record.Cause.TheVariants as cause
+-- What comes of commands where nothing fails: how they end, and what they write.
+use Rattle.std.specs.Prelude.{◌≡◌, ◌≢◌, ◌⊎◌, ◌-◌, ◌^◌, ◌<◌, ◌≤◌, ℕ, Bool, List, [], ◌∷◌, length, map, min, Option, Some, None, option_map, Result, Ok, Err, nat_eq, if◌then◌else◌}
+use Rattle.std.specs.List.{cons_option}
+use Rattle.ecoff_load.specs.declared.fault.Refusal.{Refusal}
+use Rattle.ecoff_load.specs.declared.image.Image.{Image}
+use Rattle.ecoff_load.specs.Object.{IsObject}
+use Rattle.ecoff_load.specs.Checks.{refusal}
+use Rattle.event_trace.specs.declared.fault.TraceFault.{TraceFault}
+use Rattle.event_trace.specs.declared.fault.TraceFault.TheVariants as faults
+use Rattle.event_trace.specs.declared.fault.TraceWhy.TheVariants as why
+use Rattle.event_trace.specs.declared.trace.Trace.{Trace}
+use Rattle.event_trace.specs.Grammar.{absent_trace}
+use Rattle.event_trace.specs.Reading.{checked}
 use Rattle.sim_safe.specs.State.{State, start_state}
-use Rattle.sim_main.specs.Run.{records_of, state_after, end_of, text_of}
-use Rattle.sim_main.specs.Request.{Request, SimSafe}
-use Rattle.sim_main.specs.declared.run.RunEnd.{RunEnd}
-use Rattle.sim_main.specs.declared.run.RunEnd.TheVariants as ends
+use Rattle.sim_safe.specs.Commit.{text_of, outputs_of}
+use Rattle.sim_safe.specs.Run.{items_of, after, end_of}
+use Rattle.sim_watch.specs.Statistics.{statistics_of}
+use Rattle.sim_opts.specs.Request.{Request, SimSafe, Record, Asm, Dis}
 use Rattle.sim_main.specs.declared.ending.Ending.{Ending}
 use Rattle.sim_main.specs.declared.ending.Ending.TheVariants as ending
 use Rattle.sim_main.specs.declared.ending.Unbuilt.TheVariants as unbuilt
-use Rattle.sim_main.specs.declared.simulate.Loaded.{Loaded}
-use Rattle.sim_main.specs.declared.simulate.Loaded.TheVariants as loaded
+use Rattle.sim_main.specs.Ending.{ending_of}
+use Rattle.sim_main.specs.Report.{fault_line, statistics_text}
 
--- the status of the program
-abbrev pub status_of : Ending → ℕ
-status_of (ending.Exited code) = 0
-status_of ending.ShelfFault = 5
-status_of ending.OutOfMemory = 7
-status_of (ending.Stopped why pc icnt) = 8
-status_of ending.Budget = 9
-status_of (ending.TooLong name) = 11
-status_of (ending.NotBuilt what) = 12
+-- ---- outcomes
 
--- the ending of a run that stopped
-abbrev pub stopped : Cause → ℕ → ℕ → Ending
-stopped (cause.Exited code) pc icnt = ending.Exited code
-stopped cause.BadFetch pc icnt = ending.Stopped cause.BadFetch pc icnt
-stopped cause.Illegal pc icnt = ending.Stopped cause.Illegal pc icnt
-stopped (cause.TraceEnd used) pc icnt = ending.Stopped (cause.TraceEnd used) pc icnt
+-- a file that a command writes, and its text
+pub record Output : Type 0 where
+  pub name : List ℕ
+  pub text : List ℕ
 
--- the ending of a run, by how it ended and the state in which it did
-abbrev pub ending_of : RunEnd → ℕ → ℕ → Ending
-ending_of ends.Limit pc icnt = ending.Budget
-ending_of (ends.Stop why) pc icnt = stopped why pc icnt
-ending_of (ends.NotBuilt number) pc icnt = ending.NotBuilt (unbuilt.Opcode number pc icnt)
+-- what a command comes to
+pub record Outcome : Type 0 where
+  pub ending : Ending
+  -- the one file that it writes, if it writes any
+  pub file : Option Output
+  -- the output of the program, which goes to the first stream
+  pub output : List ℕ
+  -- what goes to the second stream
+  pub report : List ℕ
 
--- the most instructions of a command
-abbrev pub most : ℕ
-most = 1000000000
+-- a refusal, of which the second stream gets a line
+abbrev pub refused : Ending → Outcome
+refused e = record { ending = e; file = None; output = []; report = fault_line e }
 
--- the commit text of a run from a start state
-abbrev pub commits_of : State → List ℕ
-commits_of s = text_of (records_of most s)
+-- ---- runs
 
--- the ending of a run from a start state
-abbrev pub run_ending : State → Ending
-run_ending s = ending_of (end_of most s) (state_after most s).pc (state_after most s).icnt
+-- the most instructions that a run of up to n does: it ends where 10^15 are done
+abbrev pub step_limit : State → ℕ → ℕ
+step_limit s n = min n (10 ^ 15 - s.icnt)
 
--- the state in which an object starts
-abbrev pub start_of : List ℕ → State
-start_of bytes = start_state (image_at bytes)
+unfoldable pub run_ending : Trace → ℕ → State → Ending
+run_ending trace n s = ending_of (end_of trace n s) (after trace n s).pc (after trace n s).icnt
 
--- a run from a start state came to its end: its text is in the file, and the ending is the run's
-pub record Completes (s : State) (new : Files) (file : List ℕ) (e : Ending) : Type 0 where
-  pub text : new file ≡ Some (commits_of s)
-  pub ending : e ≡ run_ending s
+-- the statistics, and how the run ended
+unfoldable pub run_report : Trace → ℕ → State → List ℕ
+run_report trace n s = statistics_text (statistics_of (items_of trace n s)) (end_of trace n s) (after trace n s).pc (after trace n s).icnt
 
--- a file is as before, or holds a front of a text
-abbrev pub HoldsFront : Files → List ℕ → List ℕ → Files → Type 0
-HoldsFront old file text new = (new file ≡ old file) ⊎ BeginsWith text (bytes_at new file)
+-- up to n steps from a state over a trace, with the commit text in a file that may be named
+abbrev pub ran_for : Trace → ℕ → State → Option (List ℕ) → Outcome
+ran_for trace n s commits = record {
+  ending = run_ending trace n s;
+  file = option_map (λ name. record { name = name; text = text_of (items_of trace n s) }) commits;
+  output = outputs_of (items_of trace n s);
+  report = run_report trace n s;
+}
 
--- the object is of the built form and within its limit, and its run came to its end
-pub record RunsObject (bytes : List ℕ) (old : Files) (file : List ℕ) (new : Files) (e : Ending) : Type 0 where
-  pub limit : length bytes ≤ 16777216
-  pub form : IsOneText bytes
-  pub run : Completes (start_of bytes) new file e
-  pub others : OthersStay old file new
+abbrev pub ran : Trace → ℕ → State → Option (List ℕ) → Outcome
+ran trace n s commits = ran_for trace (step_limit s n) s commits
 
--- the run was given up: its file is as before or holds a front of its text, all others stay
-pub record GivesUpRun (bytes : List ℕ) (old : Files) (file : List ℕ) (new : Files) : Type 0 where
-  pub limit : length bytes ≤ 16777216
-  pub form : IsOneText bytes
-  pub front : HoldsFront old file (commits_of (start_of bytes)) new
-  pub others : OthersStay old file new
+-- ---- files, in the order in which they are judged
 
--- the command gave up: before its run no file has changed
-abbrev pub GivesUp : List ℕ → Files → List ℕ → Files → Type 0
-GivesUp bytes old file new = SameFiles old new ⊎ GivesUpRun bytes old file new
+-- the first of the loaded files has a limit: it is refused above it, and else the next judgement is made
+abbrev pub Loads : ℕ → List ℕ → List (List ℕ) → Outcome → (List ℕ → List (List ℕ) → Type 0) → Type 0
+Loads limit name [] o Next = ⊥
+Loads limit name (bytes ∷ others) o Next = ((limit < length bytes) × (o ≡ refused (ending.TooLong name))) ⊎ ((length bytes ≤ limit) × Next bytes others)
 
--- the command refused for a cause, and no file is written
-pub record Refuses (old new : Files) (P : Type 0) : Type 0 where
-  pub cause : P
-  pub same : SameFiles old new
+-- the same of a file that may be named
+abbrev pub LoadsNamed : ℕ → Option (List ℕ) → List (List ℕ) → Outcome → (Option (List ℕ) → List (List ℕ) → Type 0) → Type 0
+LoadsNamed limit None loaded o Next = Next None loaded
+LoadsNamed limit (Some name) loaded o Next = Loads limit name loaded o (λ bytes others. Next (Some bytes) others)
 
--- sim-safe on an object, with its commit text in a file
-abbrev pub SimSafeOutcome : List ℕ → List ℕ → Files → Files → Ending → Type 0
-SimSafeOutcome file object old new ending.ShelfFault = GivesUp (bytes_at old object) old file new
-SimSafeOutcome file object old new ending.OutOfMemory = GivesUp (bytes_at old object) old file new
-SimSafeOutcome file object old new (ending.TooLong name) = Refuses old new ((name ≡ object) × (16777216 < length (bytes_at old object)))
-SimSafeOutcome file object old new (ending.NotBuilt unbuilt.Words) = ⊥
-SimSafeOutcome file object old new (ending.NotBuilt unbuilt.Object) = Refuses old new ((IsOneText (bytes_at old object) → ⊥) × (length (bytes_at old object) ≤ 16777216))
-SimSafeOutcome file object old new (ending.NotBuilt (unbuilt.Opcode number pc icnt)) = RunsObject (bytes_at old object) old file new (ending.NotBuilt (unbuilt.Opcode number pc icnt))
-SimSafeOutcome file object old new (ending.Exited code) = RunsObject (bytes_at old object) old file new (ending.Exited code)
-SimSafeOutcome file object old new (ending.Stopped why pc icnt) = RunsObject (bytes_at old object) old file new (ending.Stopped why pc icnt)
-SimSafeOutcome file object old new ending.Budget = ⊥
+-- an object is refused where a check fails, and else is that of an image
+abbrev pub JudgesObject : List ℕ → Outcome → (Image → Type 0) → Type 0
+JudgesObject bytes o Next =
+    ((bad : Refusal) × (refusal bytes ≡ Some bad) × (o ≡ refused (ending.Object bad.at bad.why)))
+    ⊎ ((image : Image) × IsObject bytes image × Next image)
 
--- what comes of a request
-abbrev pub Performs : Request → Files → Files → Ending → Type 0
-Performs (SimSafe file object) old new e = SimSafeOutcome file object old new e
+-- where a trace names its byte order; version 1 has none, and is told at its start
+abbrev pub order_place : Trace → ℕ
+order_place trace = if nat_eq trace.version 2 then 12 else 0
 
--- what comes of words: of those that have no shape that is built, their refusal
-abbrev pub Outcome : Option Request → Files → Files → Ending → Type 0
-Outcome None old new e = Refuses old new (e ≡ ending.NotBuilt unbuilt.Words)
-Outcome (Some request) old new e = Performs request old new e
+-- the trace of a file is of the object's byte order, or is refused
+abbrev pub JudgesOrder : Trace → Bool → Outcome → (Trace → Type 0) → Type 0
+JudgesOrder trace big o Next =
+    ((trace.big ≢ big) × (o ≡ refused (ending.Trace (order_place trace) why.OtherOrder))) ⊎ ((trace.big ≡ big) × Next trace)
 
--- ShelfFault comes where the count rose and only there; every other answer leaves the count
-abbrev pub Counts : ℕ → ℕ → Ending → Type 0
-Counts before now ending.ShelfFault = (before ≤ now) × Rose before now
-Counts before now ending.OutOfMemory = now ≡ before
-Counts before now (ending.Exited code) = now ≡ before
-Counts before now (ending.Stopped why pc icnt) = now ≡ before
-Counts before now ending.Budget = now ≡ before
-Counts before now (ending.TooLong name) = now ≡ before
-Counts before now (ending.NotBuilt what) = now ≡ before
+-- a trace is refused where a check fails, and else is the one that its bytes stand for
+abbrev pub JudgesTrace : Result Trace TraceFault → Bool → Outcome → (Trace → Type 0) → Type 0
+JudgesTrace (Err (faults.Bad at reason)) big o Next = o ≡ refused (ending.Trace at reason)
+JudgesTrace (Err faults.OutOfMemory) big o Next = ⊥
+JudgesTrace (Ok trace) big o Next = JudgesOrder trace big o Next
 
--- an answer that tells of the words and files, and not of a failing outside or want of memory
-abbrev pub IsAnswer : Ending → Type 0
-IsAnswer ending.ShelfFault = ⊥
-IsAnswer ending.OutOfMemory = ⊥
-IsAnswer (ending.Exited code) = Unit {0}
-IsAnswer (ending.Stopped why pc icnt) = Unit {0}
-IsAnswer ending.Budget = Unit {0}
-IsAnswer (ending.TooLong name) = Unit {0}
-IsAnswer (ending.NotBuilt what) = Unit {0}
+-- the same where there may be no trace
+abbrev pub JudgesGiven : Option (List ℕ) → Bool → Outcome → (Trace → Type 0) → Type 0
+JudgesGiven None big o Next = Next absent_trace
+JudgesGiven (Some bytes) big o Next = JudgesTrace (checked bytes) big o Next
 
--- a file that is too long is the object, named as the words name it
-abbrev pub IsLongName : Option Request → List ℕ → Type 0
-IsLongName (Some (SimSafe commits object)) name = name ≡ object
-IsLongName None name = ⊥
+-- ---- commands
 
-abbrev pub NamesObject : Option Request → Ending → Type 0
-NamesObject request (ending.TooLong name) = IsLongName request name
-NamesObject request ending.ShelfFault = Unit {0}
-NamesObject request ending.OutOfMemory = Unit {0}
-NamesObject request (ending.Exited code) = Unit {0}
-NamesObject request (ending.Stopped why pc icnt) = Unit {0}
-NamesObject request ending.Budget = Unit {0}
-NamesObject request (ending.NotBuilt what) = Unit {0}
+abbrev pub object_limit : ℕ
+object_limit = 16777216
 
--- what the load of an object comes to: its image, or the ending that refuses it
-abbrev pub LoadsObject : List ℕ → List ℕ → Loaded → Type 0
-LoadsObject object bytes (loaded.Program image) = (length bytes ≤ 16777216) × IsObject bytes image
-LoadsObject object bytes (loaded.Refused (ending.TooLong name)) = (name ≡ object) × (16777216 < length bytes)
-LoadsObject object bytes (loaded.Refused ending.ShelfFault) = Unit {0}
-LoadsObject object bytes (loaded.Refused ending.OutOfMemory) = Unit {0}
-LoadsObject object bytes (loaded.Refused (ending.NotBuilt unbuilt.Object)) = (IsOneText bytes → ⊥) × (length bytes ≤ 16777216)
-LoadsObject object bytes (loaded.Refused (ending.NotBuilt unbuilt.Words)) = ⊥
-LoadsObject object bytes (loaded.Refused (ending.NotBuilt (unbuilt.Opcode number pc icnt))) = ⊥
-LoadsObject object bytes (loaded.Refused (ending.Exited code)) = ⊥
-LoadsObject object bytes (loaded.Refused (ending.Stopped why pc icnt)) = ⊥
-LoadsObject object bytes (loaded.Refused ending.Budget) = ⊥
+abbrev pub trace_limit : ℕ
+trace_limit = 67108864
 
--- the same without the object's bytes: which endings refuse it
-abbrev pub MayLoad : List ℕ → Loaded → Type 0
-MayLoad object (loaded.Program image) = IsImage image
-MayLoad object (loaded.Refused (ending.TooLong name)) = name ≡ object
-MayLoad object (loaded.Refused ending.ShelfFault) = Unit {0}
-MayLoad object (loaded.Refused ending.OutOfMemory) = Unit {0}
-MayLoad object (loaded.Refused (ending.NotBuilt unbuilt.Object)) = Unit {0}
-MayLoad object (loaded.Refused (ending.NotBuilt unbuilt.Words)) = ⊥
-MayLoad object (loaded.Refused (ending.NotBuilt (unbuilt.Opcode number pc icnt))) = ⊥
-MayLoad object (loaded.Refused (ending.Exited code)) = ⊥
-MayLoad object (loaded.Refused (ending.Stopped why pc icnt)) = ⊥
-MayLoad object (loaded.Refused ending.Budget) = ⊥
+-- sim-safe: the object is loaded and then the trace, if one is named; then the object is judged and
+-- then the trace; then the program runs from its start
+abbrev pub SimSafeOutcome : (commits trace : Option (List ℕ)) (max_inst : ℕ) (object : List ℕ) (args : List (List ℕ)) → List (List ℕ) → Outcome → Type 0
+SimSafeOutcome commits trace max_inst object args loaded o =
+    Loads object_limit object loaded o (λ program others.
+    LoadsNamed trace_limit trace others o (λ calls _.
+    JudgesObject program o (λ image.
+    JudgesGiven calls image.text.big o (λ given.
+    o ≡ ran given max_inst (start_state image args) commits))))
 
--- the count of faults over the load
-abbrev pub LoadedCounts : ℕ → ℕ → Loaded → Type 0
-LoadedCounts before now (loaded.Program image) = now ≡ before
-LoadedCounts before now (loaded.Refused e) = Counts before now e
+-- a command that is not built is refused as words without a shape are
+abbrev pub IsUnbuilt : Option Request → Type 0
+IsUnbuilt None = Unit {0}
+IsUnbuilt (Some (SimSafe commits trace max_inst object args)) = ⊥
+IsUnbuilt (Some (Record out input files max_inst object args)) = Unit {0}
+IsUnbuilt (Some (Asm source object)) = Unit {0}
+IsUnbuilt (Some (Dis object)) = Unit {0}
 
--- a run from a start state, whose text goes to a file
-abbrev pub Executes : State → Files → List ℕ → Files → Ending → Type 0
-Executes s old file new ending.ShelfFault = HoldsFront old file (commits_of s) new
-Executes s old file new ending.OutOfMemory = HoldsFront old file (commits_of s) new
-Executes s old file new (ending.Exited code) = Completes s new file (ending.Exited code)
-Executes s old file new (ending.Stopped why pc icnt) = Completes s new file (ending.Stopped why pc icnt)
-Executes s old file new ending.Budget = ⊥
-Executes s old file new (ending.TooLong name) = ⊥
-Executes s old file new (ending.NotBuilt what) = Completes s new file (ending.NotBuilt what)
+abbrev pub not_built : Outcome
+not_built = refused (ending.NotBuilt unbuilt.Words)
 
--- an ending that a run can come to, also one that was given up
-abbrev pub IsOfRun : Ending → Type 0
-IsOfRun ending.ShelfFault = Unit {0}
-IsOfRun ending.OutOfMemory = Unit {0}
-IsOfRun (ending.Exited code) = Unit {0}
-IsOfRun (ending.Stopped why pc icnt) = Unit {0}
-IsOfRun ending.Budget = ⊥
-IsOfRun (ending.TooLong name) = ⊥
-IsOfRun (ending.NotBuilt unbuilt.Words) = ⊥
-IsOfRun (ending.NotBuilt unbuilt.Object) = ⊥
-IsOfRun (ending.NotBuilt (unbuilt.Opcode number pc icnt)) = Unit {0}
+-- the files that a request loads, in this order
+abbrev pub names_of : Option Request → List (List ℕ)
+names_of None = []
+names_of (Some (SimSafe commits trace max_inst object args)) = object ∷ cons_option trace []
+names_of (Some (Record out input files max_inst object args)) = []
+names_of (Some (Asm source object)) = []
+names_of (Some (Dis object)) = []
 
--- one and the same answer comes of the same words and files
-abbrev pub IsDetermined : Option Request → Type 0
-IsDetermined request = (old new other : Files) (e f : Ending) → Outcome request old new e → Outcome request old other f → IsAnswer e → IsAnswer f → e ≡ f
+-- what comes of a request, by the bytes of the files that it loads
+abbrev pub HasOutcome : Option Request → List (List ℕ) → Outcome → Type 0
+HasOutcome None loaded o = o ≡ not_built
+HasOutcome (Some (SimSafe commits trace max_inst object args)) loaded o = SimSafeOutcome commits trace max_inst object args loaded o
+HasOutcome (Some (Record out input files max_inst object args)) loaded o = o ≡ not_built
+HasOutcome (Some (Asm source object)) loaded o = o ≡ not_built
+HasOutcome (Some (Dis object)) loaded o = o ≡ not_built

@@ -1,12 +1,17 @@
 //! The program `pisa`: the command that the words name, from words to files.
 //!
 //! `simulate` does all that the program does, over any files and streams. Its contract is the
-//! whole outcome: which words and objects are refused and how, how a run ends, what each file
-//! holds, also after a fault or want of memory, and that a failing outside is answered as such.
+//! whole outcome: which words and files are refused and how, how a run ends, what each file and
+//! stream holds, also after a fault or want of memory, and that a failing outside is answered as
+//! such.
 #![tactic(auto)]
 
 mod ending;
-mod run;
+mod judging;
+mod loading;
+mod report;
+mod running;
+mod safe;
 mod simulate;
 #[cfg(test)]
 mod tests;
