@@ -43,6 +43,8 @@ answered e whole part k x = by_cases e whole part (λ _. x) (λ h. absurd cc)
 -- a report that was put leaves the count
 pub reported : (e : Ending) (before now : ℕ) → is_fault e ≡ false → now ≡ before → ReportCounts before now e
 reported (ending.Exited code) before now k x = x
+reported ending.Made before now k x = x
+reported (ending.Text line why) before now k x = x
 reported (ending.Object at why) before now k x = x
 reported (ending.Trace at why) before now k x = x
 reported ending.ShelfFault before now k x = absurd cc

@@ -21,6 +21,8 @@ tells_growth before now ending.SinkFault h =
     record { shelf = λ k. absurd (omega arith); prog = λ k. refl; stat = λ k. refl }
 tells_growth before now ending.OutOfMemory h = none_grew before now ending.OutOfMemory h
 tells_growth before now (ending.Exited code) h = none_grew before now (ending.Exited code) h
+tells_growth before now ending.Made h = none_grew before now ending.Made h
+tells_growth before now (ending.Text line why) h = none_grew before now (ending.Text line why) h
 tells_growth before now (ending.Object at why) h = none_grew before now (ending.Object at why) h
 tells_growth before now (ending.Trace at why) h = none_grew before now (ending.Trace at why) h
 tells_growth before now (ending.Stopped why pc icnt) h = none_grew before now (ending.Stopped why pc icnt) h

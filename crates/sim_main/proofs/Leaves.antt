@@ -17,11 +17,11 @@ use Rattle.sim_main.specs.Steps.{RunLeaves, StreamLeaves, PreparedBySome, run_of
 use Rattle.sim_main.proofs.Endings.{by_cases, when_answered, when_given_up}
 
 -- files that were as before when a file was written
-whole_after : (f : Option Output) (old mid new : Files) → SameFiles old mid → WholeFile f mid new → WholeFile f old new
+pub whole_after : (f : Option Output) (old mid new : Files) → SameFiles old mid → WholeFile f mid new → WholeFile f old new
 whole_after None old mid new m x = λ name. x name ∙ m name
 whole_after (Some f) old mid new m x = (x.0, λ other d. x.1 other d ∙ m other)
 
-front_after : (f : Option Output) (old mid new : Files) → SameFiles old mid → FileFront f mid new → FileFront f old new
+pub front_after : (f : Option Output) (old mid new : Files) → SameFiles old mid → FileFront f mid new → FileFront f old new
 front_after None old mid new m x = λ name. x name ∙ m name
 front_after (Some f) old mid new m x = (⊎_elim (λ h. inl (h ∙ m f.name)) (λ h. inr h) x.0, λ other d. x.1 other d ∙ m other)
 
@@ -97,15 +97,15 @@ unbuilt_has : (request : Option Request) (loaded : List (List ℕ)) → IsUnbuil
 unbuilt_has None loaded k = refl
 unbuilt_has (Some (SimSafe commits trace max_inst object args)) loaded k = absurd k
 unbuilt_has (Some (Record out input files max_inst object args)) loaded k = refl
-unbuilt_has (Some (Asm source object)) loaded k = refl
-unbuilt_has (Some (Dis object)) loaded k = refl
+unbuilt_has (Some (Asm source object)) loaded k = absurd k
+unbuilt_has (Some (Dis object)) loaded k = absurd k
 
 unbuilt_names : (request : Option Request) → IsUnbuilt request → 0 ≡ length (names_of request)
 unbuilt_names None k = refl
 unbuilt_names (Some (SimSafe commits trace max_inst object args)) k = absurd k
 unbuilt_names (Some (Record out input files max_inst object args)) k = refl
-unbuilt_names (Some (Asm source object)) k = refl
-unbuilt_names (Some (Dis object)) k = refl
+unbuilt_names (Some (Asm source object)) k = absurd k
+unbuilt_names (Some (Dis object)) k = absurd k
 
 pub unbuilt_files : (request : Option Request) (old : Files) → IsUnbuilt request → LeavesFiles request old old (ending.NotBuilt unbuilt.Words)
 unbuilt_files request old k = record { outcome = not_built; has = unbuilt_has request (loaded_from request old) k; ending = refl; holds = λ name. refl }

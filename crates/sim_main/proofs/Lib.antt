@@ -3,5 +3,7 @@ pub mod Loads
 pub mod Judged
 pub mod Runs
 pub mod Leaves
+pub mod Listed
+pub mod Making
 pub mod Unique
 pub mod Grown

@@ -28,10 +28,10 @@ pub some_out_of_memory : (object : List ℕ) (trace : Option (List ℕ)) → Loa
 some_out_of_memory object trace = record { loaded = [] ∷ empty_if trace; one_each = empty_count object [] trace; by = tt }
 
 -- bytes above a limit
-above : ℕ → List ℕ
+pub above : ℕ → List ℕ
 above limit = replicate (limit + 1) 0
 
-above_limit : (limit : ℕ) → limit < length (above limit)
+pub above_limit : (limit : ℕ) → limit < length (above limit)
 unfolding above
 above_limit limit = let k : length (above limit) ≡ limit + 1 = length-replicate {A = ℕ} (limit + 1) 0 in omega (arith, k)
 

@@ -10,10 +10,13 @@ use Rattle.event_trace.specs.declared.fault.TraceFault.TheVariants as faults
 use Rattle.event_trace.specs.declared.trace.Trace.{Trace}
 use Rattle.event_trace.specs.Grammar.{absent_trace}
 use Rattle.event_trace.specs.Reading.{checked}
+use Rattle.pisa_asm.specs.declared.fault.AsmFault.{AsmFault}
+use Rattle.pisa_asm.specs.declared.fault.AsmFault.TheVariants as asm_fault
+use Rattle.pisa_asm.specs.Passes.{described}
 use Rattle.sim_safe.specs.State.{start_state}
 use Rattle.sim_opts.specs.Request.{Request, SimSafe, Record, Asm, Dis}
 use Rattle.sim_main.specs.declared.ending.Ending.TheVariants as ending
-use Rattle.sim_main.specs.Outcome.{Outcome, HasOutcome, Loads, LoadsNamed, JudgesObject, JudgesOrder, JudgesTrace, JudgesGiven, object_limit, trace_limit, ran, refused}
+use Rattle.sim_main.specs.Outcome.{Outcome, HasOutcome, Loads, LoadsNamed, JudgesObject, JudgesOrder, JudgesTrace, JudgesGiven, JudgesLayout, JudgesSource, object_limit, trace_limit, source_limit, ran, object_made, listing_made, refused}
 
 one_refusal : (found : Option Refusal) (a b : Refusal) → found ≡ Some a → found ≡ Some b → a ≡ b
 one_refusal None a b h k = absurd cc
@@ -65,6 +68,17 @@ given_one : (calls : Option (List ℕ)) (big : Bool) (o p : Outcome) (N M : Trac
 given_one None big o p N M f x y = f absent_trace x y
 given_one (Some bytes) big o p N M f x y = trace_one (checked bytes) big o p N M f x y
 
+layout_one : (image : Image) (o p : Outcome) (N M : Image → Type 0) → ((i : Image) → N i → M i → o ≡ p) → JudgesLayout image o N → JudgesLayout image p M → o ≡ p
+layout_one image o p N M f (inl a) (inl b) = a.1 ∙ sym b.1
+layout_one image o p N M f (inl a) (inr b) = absurd (a.0 b.0)
+layout_one image o p N M f (inr a) (inl b) = absurd (b.0 a.0)
+layout_one image o p N M f (inr a) (inr b) = f image a.1 b.1
+
+source_one : (meaning : Result Image AsmFault) (o p : Outcome) (N M : Image → Type 0) → ((i : Image) → N i → M i → o ≡ p) → JudgesSource meaning o N → JudgesSource meaning p M → o ≡ p
+source_one (Err (asm_fault.Bad line reason)) o p N M f x y = x ∙ sym y
+source_one (Err asm_fault.OutOfMemory) o p N M f x y = absurd x
+source_one (Ok image) o p N M f x y = layout_one image o p N M f x y
+
 pub one_outcome : (request : Option Request) (loaded : List (List ℕ)) (o p : Outcome) → HasOutcome request loaded o → HasOutcome request loaded p → o ≡ p
 one_outcome None loaded o p x y = x ∙ sym y
 one_outcome (Some (SimSafe commits trace max_inst object args)) loaded o p x y =
@@ -77,5 +91,13 @@ one_outcome (Some (SimSafe commits trace max_inst object args)) loaded o p x y =
     (λ image. given_one calls image.text.big o p (λ given. Ends o image given) (λ given. Ends p image given) (λ t h k. h ∙ sym k))))
     x y
 one_outcome (Some (Record out input files max_inst object args)) loaded o p x y = x ∙ sym y
-one_outcome (Some (Asm source object)) loaded o p x y = x ∙ sym y
-one_outcome (Some (Dis object)) loaded o p x y = x ∙ sym y
+one_outcome (Some (Asm source object)) loaded o p x y =
+    let Makes : Outcome → Image → Type 0 = λ o image. o ≡ object_made object image in
+    loads_one source_limit source loaded o p (λ bytes _. JudgesSource (described bytes) o (Makes o)) (λ bytes _. JudgesSource (described bytes) p (Makes p))
+    (λ bytes _. source_one (described bytes) o p (Makes o) (Makes p) (λ i h k. h ∙ sym k))
+    x y
+one_outcome (Some (Dis object)) loaded o p x y =
+    let Makes : Outcome → Image → Type 0 = λ o image. o ≡ listing_made image in
+    loads_one object_limit object loaded o p (λ bytes _. JudgesObject bytes o (Makes o)) (λ bytes _. JudgesObject bytes p (Makes p))
+    (λ bytes _. object_one bytes o p (Makes o) (Makes p) (λ i h k. h ∙ sym k))
+    x y

@@ -75,6 +75,8 @@ Counts before now ending.ShelfFault = Risen before.0 now.0 × (now.1 ≡ before.
 Counts before now ending.SinkFault = (now.0 ≡ before.0) × ((Risen before.1 now.1 × (now.2 ≡ before.2)) ⊎ ((now.1 ≡ before.1) × Risen before.2 now.2))
 Counts before now ending.OutOfMemory = now ≡ before
 Counts before now (ending.Exited code) = now ≡ before
+Counts before now ending.Made = now ≡ before
+Counts before now (ending.Text line why) = now ≡ before
 Counts before now (ending.Object at why) = now ≡ before
 Counts before now (ending.Trace at why) = now ≡ before
 Counts before now (ending.Stopped why pc icnt) = now ≡ before
@@ -88,13 +90,15 @@ pub record TellsGrowth (before now : ℕ × ℕ × ℕ) (e : Ending) : Type 0 wh
   pub prog : before.1 < now.1 → e ≡ ending.SinkFault
   pub stat : before.2 < now.2 → e ≡ ending.SinkFault
 
--- nothing is put on the second stream after a fault of the shelf or of the first stream, and nothing
--- on the first where no program ran
+-- nothing is put on the second stream after a fault of the shelf or of the first stream and where a command
+-- made an object or a listing, and nothing on the first where a file is refused
 abbrev pub Quiet : {P R : Type 0} → (P → ℕ) → P → P → R → R → Ending → Type 0
 Quiet faults prog prog_now stat stat_now ending.ShelfFault = stat_now ≡ stat
 Quiet faults prog prog_now stat stat_now ending.SinkFault = faults prog < faults prog_now → stat_now ≡ stat
 Quiet faults prog prog_now stat stat_now ending.OutOfMemory = Unit {0}
 Quiet faults prog prog_now stat stat_now (ending.Exited code) = Unit {0}
+Quiet faults prog prog_now stat stat_now ending.Made = stat_now ≡ stat
+Quiet faults prog prog_now stat stat_now (ending.Text line why) = prog_now ≡ prog
 Quiet faults prog prog_now stat stat_now (ending.Object at why) = prog_now ≡ prog
 Quiet faults prog prog_now stat stat_now (ending.Trace at why) = prog_now ≡ prog
 Quiet faults prog prog_now stat stat_now (ending.Stopped why pc icnt) = Unit {0}
@@ -106,6 +110,8 @@ Quiet faults prog prog_now stat stat_now (ending.NotBuilt what) = (prog_now ≡ 
 abbrev pub NamesLong : List (List ℕ) → Ending → Type 0
 NamesLong names (ending.TooLong name) = Contains names name
 NamesLong names (ending.Exited code) = Unit {0}
+NamesLong names ending.Made = Unit {0}
+NamesLong names (ending.Text line why) = Unit {0}
 NamesLong names (ending.Object at why) = Unit {0}
 NamesLong names (ending.Trace at why) = Unit {0}
 NamesLong names ending.ShelfFault = Unit {0}

@@ -10,6 +10,7 @@ use Rattle.sim_main.specs.declared.ending.Ending.TheVariants as ending
 -- the status of the program
 abbrev pub status_of : Ending → ℕ
 status_of (ending.Exited code) = 0
+status_of ending.Made = 0
 status_of (ending.Object at why) = 2
 status_of (ending.Trace at why) = 3
 status_of ending.ShelfFault = 5
@@ -17,12 +18,14 @@ status_of ending.SinkFault = 6
 status_of ending.OutOfMemory = 7
 status_of (ending.Stopped why pc icnt) = 8
 status_of ending.Budget = 9
+status_of (ending.Text line why) = 10
 status_of (ending.TooLong name) = 11
 status_of (ending.NotBuilt what) = 12
 
 -- an ending tells of a failing outside or of want of memory, and not of words and files
 abbrev pub is_fault : Ending → Bool
 is_fault (ending.Exited code) = false
+is_fault ending.Made = false
 is_fault (ending.Object at why) = false
 is_fault (ending.Trace at why) = false
 is_fault ending.ShelfFault = true
@@ -30,6 +33,7 @@ is_fault ending.SinkFault = true
 is_fault ending.OutOfMemory = true
 is_fault (ending.Stopped why pc icnt) = false
 is_fault ending.Budget = false
+is_fault (ending.Text line why) = false
 is_fault (ending.TooLong name) = false
 is_fault (ending.NotBuilt what) = false
 

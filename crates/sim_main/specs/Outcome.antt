@@ -5,12 +5,17 @@ use Rattle.ecoff_load.specs.declared.fault.Refusal.{Refusal}
 use Rattle.ecoff_load.specs.declared.image.Image.{Image}
 use Rattle.ecoff_load.specs.Object.{IsObject}
 use Rattle.ecoff_load.specs.Checks.{refusal}
+use Rattle.ecoff_load.specs.Layout.{object_bytes}
 use Rattle.event_trace.specs.declared.fault.TraceFault.{TraceFault}
 use Rattle.event_trace.specs.declared.fault.TraceFault.TheVariants as faults
 use Rattle.event_trace.specs.declared.fault.TraceWhy.TheVariants as why
 use Rattle.event_trace.specs.declared.trace.Trace.{Trace}
 use Rattle.event_trace.specs.Grammar.{absent_trace}
 use Rattle.event_trace.specs.Reading.{checked}
+use Rattle.pisa_asm.specs.declared.fault.AsmFault.{AsmFault}
+use Rattle.pisa_asm.specs.declared.fault.AsmFault.TheVariants as asm_fault
+use Rattle.pisa_asm.specs.declared.fault.TextWhy.TheVariants as text_why
+use Rattle.pisa_asm.specs.Passes.{described, CanBeHeld}
 use Rattle.sim_safe.specs.State.{State, start_state}
 use Rattle.sim_safe.specs.Commit.{text_of, outputs_of}
 use Rattle.sim_safe.specs.Run.{items_of, after, end_of}
@@ -21,6 +26,7 @@ use Rattle.sim_main.specs.declared.ending.Ending.TheVariants as ending
 use Rattle.sim_main.specs.declared.ending.Unbuilt.TheVariants as unbuilt
 use Rattle.sim_main.specs.Ending.{ending_of}
 use Rattle.sim_main.specs.Report.{fault_line, statistics_text}
+use Rattle.sim_main.specs.Listing.{listing_of}
 
 -- ---- outcomes
 
@@ -34,7 +40,7 @@ pub record Outcome : Type 0 where
   pub ending : Ending
   -- the one file that it writes, if it writes any
   pub file : Option Output
-  -- the output of the program, which goes to the first stream
+  -- the output of the program, or a listing, which goes to the first stream
   pub output : List ℕ
   -- what goes to the second stream
   pub report : List ℕ
@@ -42,6 +48,10 @@ pub record Outcome : Type 0 where
 -- a refusal, of which the second stream gets a line
 abbrev pub refused : Ending → Outcome
 refused e = record { ending = e; file = None; output = []; report = fault_line e }
+
+-- a command that did its work without a run, and wrote this
+abbrev pub made : Option Output → List ℕ → Outcome
+made file output = record { ending = ending.Made; file = file; output = output; report = [] }
 
 -- ---- runs
 
@@ -106,6 +116,16 @@ abbrev pub JudgesGiven : Option (List ℕ) → Bool → Outcome → (Trace → T
 JudgesGiven None big o Next = Next absent_trace
 JudgesGiven (Some bytes) big o Next = JudgesTrace (checked bytes) big o Next
 
+-- an image that no object of at most 16,777,216 bytes can hold is refused as a whole, at line 0
+abbrev pub JudgesLayout : Image → Outcome → (Image → Type 0) → Type 0
+JudgesLayout image o Next = ((CanBeHeld image → ⊥) × (o ≡ refused (ending.Text 0 text_why.Layout))) ⊎ (CanBeHeld image × Next image)
+
+-- a source is refused at its first wrong line, and else describes an image
+abbrev pub JudgesSource : Result Image AsmFault → Outcome → (Image → Type 0) → Type 0
+JudgesSource (Err (asm_fault.Bad line reason)) o Next = o ≡ refused (ending.Text line reason)
+JudgesSource (Err asm_fault.OutOfMemory) o Next = ⊥
+JudgesSource (Ok image) o Next = JudgesLayout image o Next
+
 -- ---- commands
 
 abbrev pub object_limit : ℕ
@@ -113,6 +133,9 @@ object_limit = 16777216
 
 abbrev pub trace_limit : ℕ
 trace_limit = 67108864
+
+abbrev pub source_limit : ℕ
+source_limit = 4194304
 
 -- sim-safe: the object is loaded and then the trace, if one is named; then the object is judged and
 -- then the trace; then the program runs from its start
@@ -124,13 +147,33 @@ SimSafeOutcome commits trace max_inst object args loaded o =
     JudgesGiven calls image.text.big o (λ given.
     o ≡ ran given max_inst (start_state image args) commits))))
 
+-- asm: the source is loaded and judged; then the object of its image is written
+abbrev pub object_made : List ℕ → Image → Outcome
+object_made object image = made (Some (record { name = object; text = object_bytes image })) []
+
+abbrev pub AsmOutcome : (source object : List ℕ) → List (List ℕ) → Outcome → Type 0
+AsmOutcome source object loaded o =
+    Loads source_limit source loaded o (λ bytes _.
+    JudgesSource (described bytes) o (λ image.
+    o ≡ object_made object image))
+
+-- dis: the object is loaded and judged; then its text is listed on the first stream
+abbrev pub listing_made : Image → Outcome
+listing_made image = made None (listing_of image.text)
+
+abbrev pub DisOutcome : (object : List ℕ) → List (List ℕ) → Outcome → Type 0
+DisOutcome object loaded o =
+    Loads object_limit object loaded o (λ program _.
+    JudgesObject program o (λ image.
+    o ≡ listing_made image))
+
 -- a command that is not built is refused as words without a shape are
 abbrev pub IsUnbuilt : Option Request → Type 0
 IsUnbuilt None = Unit {0}
 IsUnbuilt (Some (SimSafe commits trace max_inst object args)) = ⊥
 IsUnbuilt (Some (Record out input files max_inst object args)) = Unit {0}
-IsUnbuilt (Some (Asm source object)) = Unit {0}
-IsUnbuilt (Some (Dis object)) = Unit {0}
+IsUnbuilt (Some (Asm source object)) = ⊥
+IsUnbuilt (Some (Dis object)) = ⊥
 
 abbrev pub not_built : Outcome
 not_built = refused (ending.NotBuilt unbuilt.Words)
@@ -140,13 +183,13 @@ abbrev pub names_of : Option Request → List (List ℕ)
 names_of None = []
 names_of (Some (SimSafe commits trace max_inst object args)) = object ∷ cons_option trace []
 names_of (Some (Record out input files max_inst object args)) = []
-names_of (Some (Asm source object)) = []
-names_of (Some (Dis object)) = []
+names_of (Some (Asm source object)) = source ∷ []
+names_of (Some (Dis object)) = object ∷ []
 
 -- what comes of a request, by the bytes of the files that it loads
 abbrev pub HasOutcome : Option Request → List (List ℕ) → Outcome → Type 0
 HasOutcome None loaded o = o ≡ not_built
 HasOutcome (Some (SimSafe commits trace max_inst object args)) loaded o = SimSafeOutcome commits trace max_inst object args loaded o
 HasOutcome (Some (Record out input files max_inst object args)) loaded o = o ≡ not_built
-HasOutcome (Some (Asm source object)) loaded o = o ≡ not_built
-HasOutcome (Some (Dis object)) loaded o = o ≡ not_built
+HasOutcome (Some (Asm source object)) loaded o = AsmOutcome source object loaded o
+HasOutcome (Some (Dis object)) loaded o = DisOutcome object loaded o

@@ -4,6 +4,8 @@ use Rattle.ecoff_load.specs.declared.fault.ObjectWhy.{ObjectWhy}
 use Rattle.ecoff_load.specs.declared.fault.ObjectWhy.TheVariants as object
 use Rattle.event_trace.specs.declared.fault.TraceWhy.{TraceWhy}
 use Rattle.event_trace.specs.declared.fault.TraceWhy.TheVariants as trace
+use Rattle.pisa_asm.specs.declared.fault.TextWhy.{TextWhy}
+use Rattle.pisa_asm.specs.declared.fault.TextWhy.TheVariants as text
 use Rattle.sim_safe.specs.declared.observer.RunEnd.{RunEnd}
 use Rattle.sim_safe.specs.declared.statistics.Statistics.{Statistics}
 use Rattle.sim_safe.specs.Statistics.{counts_text}
@@ -40,6 +42,21 @@ trace_why_text trace.Block = codes "Block"
 trace_why_text trace.Extra = codes "Extra"
 trace_why_text trace.OtherOrder = codes "OtherOrder"
 
+abbrev pub text_why_text : TextWhy → List ℕ
+text_why_text text.Char = codes "Char"
+text_why_text text.Option = codes "Option"
+text_why_text text.NotHere = codes "NotHere"
+text_why_text text.Twice = codes "Twice"
+text_why_text text.Missing = codes "Missing"
+text_why_text text.Number = codes "Number"
+text_why_text text.Range = codes "Range"
+text_why_text text.Form = codes "Form"
+text_why_text text.Extra = codes "Extra"
+text_why_text text.Mnemonic = codes "Mnemonic"
+text_why_text text.Section = codes "Section"
+text_why_text text.Label = codes "Label"
+text_why_text text.Layout = codes "Layout"
+
 -- a line with a kind of file, a place in it, and a reason
 abbrev pub refusal_line : List ℕ → ℕ → List ℕ → List ℕ
 refusal_line kind at why = codes "pisa: " ++ kind ++ codes " " ++ decimal at ++ codes " " ++ why ++ codes "\n"
@@ -48,8 +65,10 @@ refusal_line kind at why = codes "pisa: " ++ kind ++ codes " " ++ decimal at ++ 
 abbrev pub fault_line : Ending → List ℕ
 fault_line (ending.Object at why) = refusal_line (codes "object") at (object_why_text why)
 fault_line (ending.Trace at why) = refusal_line (codes "trace") at (trace_why_text why)
+fault_line (ending.Text line why) = refusal_line (codes "text") line (text_why_text why)
 fault_line (ending.TooLong name) = codes "pisa: too-long " ++ name ++ codes "\n"
 fault_line (ending.Exited code) = []
+fault_line ending.Made = []
 fault_line ending.ShelfFault = []
 fault_line ending.SinkFault = []
 fault_line ending.OutOfMemory = []

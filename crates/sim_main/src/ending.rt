@@ -4,6 +4,7 @@ ghost use Rattle.sim_main.specs.Ending.{stop_ending, ending_of};
 
 use ecoff_load::ObjectWhy;
 use event_trace::TraceWhy;
+use pisa_asm::TextWhy;
 use pisa_step::Cause;
 use sim_safe::RunEnd;
 use ss_base::Name;
@@ -20,6 +21,8 @@ pub enum Unbuilt {
 pub enum Ending {
     /// The program exited with this code.
     Exited { code: u32 },
+    /// The command did its work, and no program ran.
+    Made,
     /// The object is refused at this place of its file, counted from 0.
     Object { at: u64, why: ObjectWhy },
     /// The trace is refused at this place of its file, counted from 0.
@@ -34,6 +37,8 @@ pub enum Ending {
     Stopped { cause: Cause, pc: u32, icnt: u64 },
     /// The run did as many instructions as it may.
     Budget,
+    /// The source is refused at this line, counted from 1, or as a whole at 0.
+    Text { line: u32, why: TextWhy },
     /// The file of this name is longer than it may be.
     TooLong { name: Name },
     /// What was asked for is not built yet.
@@ -49,6 +54,7 @@ impl Ending {
     {
         match self {
             Ending::Exited { .. } => 0,
+            Ending::Made => 0,
             Ending::Object { .. } => 2,
             Ending::Trace { .. } => 3,
             Ending::ShelfFault => 5,
@@ -56,6 +62,7 @@ impl Ending {
             Ending::OutOfMemory => 7,
             Ending::Stopped { .. } => 8,
             Ending::Budget => 9,
+            Ending::Text { .. } => 10,
             Ending::TooLong { .. } => 11,
             Ending::NotBuilt { .. } => 12,
         }

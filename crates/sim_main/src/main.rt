@@ -6,8 +6,10 @@
 //! such.
 #![tactic(auto)]
 
+mod assembling;
 mod ending;
 mod judging;
+mod listing;
 mod loading;
 mod report;
 mod running;

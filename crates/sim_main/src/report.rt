@@ -1,13 +1,14 @@
 //! What goes to the second stream: the line of a refusal, and the statistics of a run.
 ghost use Rattle.std.specs.Prelude.{◌≡◌, ◌++◌, false, IfOk, OnOk, codes};
 ghost use Rattle.sim_main.specs.Ending.{is_fault, by_ending, ending_of};
-ghost use Rattle.sim_main.specs.Report.{object_why_text, trace_why_text, refusal_line, fault_line, statistics_text};
+ghost use Rattle.sim_main.specs.Report.{object_why_text, trace_why_text, text_why_text, refusal_line, fault_line, statistics_text};
 ghost use Rattle.sim_main.specs.Answer.{StreamFront};
 ghost use Rattle.sim_main.specs.Steps.{ReportCounts};
 
 use crate::ending::{Ending, ending_of_run};
 use ecoff_load::ObjectWhy;
 use event_trace::TraceWhy;
+use pisa_asm::TextWhy;
 use sim_safe::push_end;
 use sim_watch::Watched;
 use ss_base::{OutOfMemory, PutFault, Sink, push_decimal};
@@ -52,7 +53,29 @@ fn trace_why_name(why: TraceWhy) -> &'static str
     }
 }
 
-fn push_text(into: &mut Vec<u8>, text: &str) -> Result<(), OutOfMemory>
+/// The name of a reason for which a source is refused.
+fn text_why_name(why: TextWhy) -> &'static str
+    ensures { result.now ≡ text_why_text why }
+{
+    match why {
+        TextWhy::Char => "Char",
+        TextWhy::Option => "Option",
+        TextWhy::NotHere => "NotHere",
+        TextWhy::Twice => "Twice",
+        TextWhy::Missing => "Missing",
+        TextWhy::Number => "Number",
+        TextWhy::Range => "Range",
+        TextWhy::Form => "Form",
+        TextWhy::Extra => "Extra",
+        TextWhy::Mnemonic => "Mnemonic",
+        TextWhy::Section => "Section",
+        TextWhy::Label => "Label",
+        TextWhy::Layout => "Layout",
+    }
+}
+
+/// Adds a text.
+pub fn push_text(into: &mut Vec<u8>, text: &str) -> Result<(), OutOfMemory>
     ensures { OnOk result (into.new.items ≡ into.old.items ++ text.now) }
 {
     into.extend_from_slice(text.as_bytes())?;
@@ -88,8 +111,12 @@ fn push_fault_line(into: &mut Vec<u8>, ending: &Ending) -> Result<(), OutOfMemor
     match ending {
         Ending::Object { at, why } => push_refusal(into, "object", *at, object_why_name(*why)),
         Ending::Trace { at, why } => push_refusal(into, "trace", *at, trace_why_name(*why)),
+        Ending::Text { line, why } => {
+            push_refusal(into, "text", u64::from(*line), text_why_name(*why))
+        }
         Ending::TooLong { name } => push_too_long(into, name.as_str()),
         Ending::Exited { .. }
+        | Ending::Made
         | Ending::ShelfFault
         | Ending::SinkFault
         | Ending::OutOfMemory

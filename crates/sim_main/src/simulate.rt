@@ -1,13 +1,18 @@
 //! The top call: all that the program does.
 ghost use Rattle.std.specs.Prelude.{◌≡◌, ◌≢◌, ◌<◌, ◌↔◌, ℕ, false, List, Option, map, string_bytes};
+ghost use Rattle.ecoff_load.specs.declared.image.Text.{Text};
+ghost use Rattle.ecoff_load.specs.Fetch.{IsInstruction};
 ghost use Rattle.sim_opts.specs.Request.{Request as Asked};
 ghost use Rattle.sim_opts.specs.Reading.{request_of};
 ghost use Rattle.sim_main.specs.declared.ending.Ending.{Ending};
 ghost use Rattle.sim_main.specs.Ending.{is_fault};
+ghost use Rattle.sim_main.specs.Listing.{instruction_count, place_of};
 ghost use Rattle.sim_main.specs.Outcome.{Outcome, HasOutcome, IsUnbuilt, names_of};
 ghost use Rattle.sim_main.specs.Answer.{EndsByBytes, OutcomeWith, Gets, WholeFile, loaded_from, LeavesFiles, LeavesOutput, LeavesReport, Counts, TellsGrowth, Quiet, NamesLong, AreHeld};
 
+use crate::assembling::asm;
 use crate::ending::{Ending, Unbuilt};
+use crate::listing::dis;
 use crate::safe::sim_safe;
 use sim_opts::{Request, read_request};
 use ss_base::{Shelf, Sink};
@@ -61,8 +66,8 @@ pub fn simulate<H: Shelf, P: Sink, R: Sink>(
     match read_request(words) {
         Some(Request::SimSafe(request)) => sim_safe(alloc, request, shelf, prog, stat),
         Some(Request::Record(_)) => not_built(),
-        Some(Request::Asm { .. }) => not_built(),
-        Some(Request::Dis { .. }) => not_built(),
+        Some(Request::Asm { source, object }) => asm(alloc, source, object, shelf, prog, stat),
+        Some(Request::Dis { object }) => dis(alloc, object, shelf, prog, stat),
         None => not_built(),
     }
 }
@@ -78,4 +83,11 @@ pub fn answers_exclude_each_other()
 #[tactic(auto, using(crate::proofs::Grown::tells_growth))]
 pub fn counts_tell()
     ensures { (before now : ℕ × ℕ × ℕ) (e : Ending) → Counts before now e → TellsGrowth before now e }
+{}
+
+/// A listing has a line for each whole instruction of a text, and no other.
+#[tactic(auto, using(crate::proofs::Listed::each_is_listed, crate::proofs::Listed::listed_is_whole))]
+pub fn listings_have_each_instruction()
+    ensures each { (text : Text) (pc : ℕ) → IsInstruction text pc → (k : ℕ) × (k < instruction_count text) × (pc ≡ place_of text k) }
+    ensures only { (text : Text) (k : ℕ) → k < instruction_count text → IsInstruction text (place_of text k) }
 {}

@@ -7,6 +7,7 @@ use ss_base::{MemShelf, MemSink};
 use std::alloc::Global;
 use std::test::Fail;
 
+mod assembly;
 mod faults;
 mod objects;
 mod programs;
@@ -82,7 +83,7 @@ fn words_of_no_shape_are_not_built(rt: HostRuntime) -> Result<(), Fail> {
         &["sim-safe", "-max:inst", "p1"],
         &["sim-safe", "-trace", "t", "-commits", "c", "p1"],
         &["sim-cache", "p1"],
-        &["dis", "p1"],
+        &["dis"],
         &["record", "-o", "c", "p1"],
     ];
     for words in cases {

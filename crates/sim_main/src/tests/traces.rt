@@ -126,7 +126,7 @@ fn traces_are_refused_by_their_bytes_and_their_order(rt: HostRuntime) -> Result<
 }
 
 /// What is recorded of an exit with 0 by the instruction of this number, at this address.
-fn exit_call(icnt: u64, pc: u32) -> Call<'static> {
+pub fn exit_call(icnt: u64, pc: u32) -> Call<'static> {
     Call {
         icnt,
         pc,

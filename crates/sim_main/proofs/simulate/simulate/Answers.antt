@@ -10,16 +10,6 @@ returns-in-Some-Record-clause-ending g c = λ _.
     unbuilt_ends g.P.Sink.tells g.P.Sink.contents g.R.Sink.tells g.R.Sink.contents c.args.prog.now c.args.stat.now (request_of (map string_bytes c.args.words.now)) c.not_built.result
     c.not_built.ensures (subst IsUnbuilt (rw c.in-Some-Record.field-0-is at c.in-Some-Record.ensures.request) tt)
 
-pub returns-in-Some-Asm-clause-ending : goal.returns-in-Some-Asm-clause-ending
-returns-in-Some-Asm-clause-ending g c = λ _.
-    unbuilt_ends g.P.Sink.tells g.P.Sink.contents g.R.Sink.tells g.R.Sink.contents c.args.prog.now c.args.stat.now (request_of (map string_bytes c.args.words.now)) c.not_built-in-Some-Asm.result
-    c.not_built-in-Some-Asm.ensures (subst IsUnbuilt (rw c.in-Some-Asm.field-0-is at c.in-Some-Asm.ensures.request) tt)
-
-pub returns-in-Some-Dis-clause-ending : goal.returns-in-Some-Dis-clause-ending
-returns-in-Some-Dis-clause-ending g c = λ _.
-    unbuilt_ends g.P.Sink.tells g.P.Sink.contents g.R.Sink.tells g.R.Sink.contents c.args.prog.now c.args.stat.now (request_of (map string_bytes c.args.words.now)) c.not_built-in-Some-Dis.result
-    c.not_built-in-Some-Dis.ensures (subst IsUnbuilt (rw c.in-Some-Dis.field-0-is at c.in-Some-Dis.ensures.request) tt)
-
 pub returns-in-None-clause-ending : goal.returns-in-None-clause-ending
 returns-in-None-clause-ending g c = λ _.
     unbuilt_ends g.P.Sink.tells g.P.Sink.contents g.R.Sink.tells g.R.Sink.contents c.args.prog.now c.args.stat.now (request_of (map string_bytes c.args.words.now)) c.not_built-in-None.result
