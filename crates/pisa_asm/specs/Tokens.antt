@@ -14,7 +14,7 @@ is_letter b = (nat_le 65 b && nat_le b 90) || (nat_le 97 b && nat_le b 122) || n
 abbrev pub is_name_byte : ℕ → Bool
 is_name_byte b = is_letter b || is_digit b
 
--- a label is a letter or `_`, and up to 31 letters, digits or `_`
+-- a label has 1 to 32 bytes, all of them letters, digits and `_`, and doesn't begin with a digit
 abbrev pub is_label : List ℕ → Bool
 is_label token = is_letter (slice_index token 0) && nat_le (length token) 32 && list_all is_name_byte token
 

@@ -5,15 +5,15 @@ ghost use Rattle.pisa_asm.specs.declared.fault.AsmFault.TheVariants as faults;
 use std::alloc::AllocError;
 use thiserror::Error;
 
-/// What is wrong with a line of text. Where a pass finds several on one line, the first in this
-/// order is told.
+/// What is wrong with a line of text. Of several faults that one pass finds in a line, the one that
+/// stands first here is told.
 #[derive(Clone, Copy, Debug, PartialEq, Eq)]
 pub enum TextWhy {
     /// A byte is neither a blank nor printable ASCII.
     Char,
-    /// An option is unknown. It comes for configurations alone.
+    /// An option is unknown. No source gives this.
     Option,
-    /// An option is another command's. It comes for configurations alone.
+    /// An option is another command's. No source gives this.
     NotHere,
     /// A label, a section or `.entry` stands a second time.
     Twice,

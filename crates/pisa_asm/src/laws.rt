@@ -1,27 +1,11 @@
 //! Laws of the assembler, each carried by a call whose contract is the law.
-ghost use Rattle.std.specs.Prelude.{◌≡◌, ◌%◌, ◌^◌, ◌<◌, ◌≤◌, ℕ, [], Some, None, Ok, Bool, false};
+ghost use Rattle.std.specs.Prelude.{◌≡◌, ◌%◌, ◌^◌, ◌<◌, ◌≤◌, ℕ, Some, Ok, false};
 ghost use Rattle.pisa_isa.specs.declared.instr.Instr.{Instr};
 ghost use Rattle.pisa_isa.specs.Classes.{is_float_op};
 ghost use Rattle.pisa_isa.specs.Coding.{IsWellFormed, decoded, number_of, second_word};
-ghost use Rattle.pisa_asm.specs.declared.statements.Command.TheVariants.{Instruction as instruction};
 ghost use Rattle.pisa_asm.specs.Operands.{branch_field, branch_target, jump_field, jump_target};
-ghost use Rattle.pisa_asm.specs.declared.sheet.Sheet.{Sheet};
-ghost use Rattle.pisa_asm.specs.Passes.{CanBeHeld, described, read};
+ghost use Rattle.pisa_asm.specs.Passes.{CanBeHeld, described};
 ghost use Rattle.pisa_asm.specs.Rounds.{image_of_one, source_of_one};
-ghost use Rattle.pisa_asm.specs.Sheets.{text_end};
-ghost use Rattle.pisa_asm.specs.Printed.{instruction_text};
-ghost use Rattle.pisa_asm.specs.Statements.{stated};
-
-/// The line that is printed for an integer instruction is read, where text is open at the same
-/// address, as the statement of this instruction: its operands give each field and no label, and
-/// the first pass finds nothing wrong with it.
-#[tactic(auto, using(crate::proofs::RoundLines::read_back))]
-pub fn lines_come_back()
-    ensures { (sheet : Sheet) (has_entry : Bool) (pc : ℕ) (i : Instr) → text_end sheet.current ≡ Some pc
-        → pc < 2 ^ 32 → IsWellFormed i → is_float_op i.op ≡ false
-        → read sheet has_entry false (instruction_text i pc)
-        ≡ Ok (stated (instruction i.op) [] (record { instr = i; number = 0; label = None })) }
-{}
 
 /// A source that opens the text at an instruction's address and has the line that is printed for
 /// it there describes the image with the two words of this instruction, and an object can hold it. The words

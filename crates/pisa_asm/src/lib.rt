@@ -4,8 +4,8 @@
 //! reason in the order of reasons; what a source means is stated line by line in `specs/`, from
 //! bytes (`Letters`, `Tokens`) over operands and statements (`Operands`, `Statements`) to sections,
 //! labels and the two passes (`Sheets`, `Passes`). `disassemble` prints an instruction as the
-//! assembler reads it, which
-//! `one_instruction_comes_back` states.
+//! assembler reads it, which `one_instruction_comes_back`
+//! states.
 #![tactic(auto)]
 
 mod assembling;
@@ -24,8 +24,7 @@ mod tokens;
 pub use assembling::assemble;
 pub use fault::{AsmFault, TextWhy};
 pub use laws::{
-    branches_reach_their_targets, jumps_reach_their_targets, lines_come_back,
-    one_instruction_comes_back,
+    branches_reach_their_targets, jumps_reach_their_targets, one_instruction_comes_back,
 };
 pub use printing::disassemble;
 

@@ -50,7 +50,7 @@ fn are_hex_digits(token: &[u8]) -> bool
     token.iter().all(|b| is_hex_digit(*b))
 }
 
-/// Whether a token is a letter or `_`, and up to 31 letters, digits or `_`.
+/// Whether a token can be a label.
 pub(crate) fn is_label(token: &[u8]) -> bool
     ensures { result ≡ is_label token.now }
 {

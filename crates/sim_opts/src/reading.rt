@@ -1,3 +1,4 @@
+//! Reading words from left to right, into what they ask for.
 ghost use Rattle.std.specs.Prelude.{◌≡◌, map, string_bytes, option_copied, option_map, codes, IfSome};
 ghost use Rattle.std.specs.List.{list_all};
 ghost use Rattle.sim_opts.specs.Word.{is_file};

@@ -1,3 +1,4 @@
+//! What words can ask for.
 use arrayvec::ArrayVec;
 
 /// What the words of a command ask for. Its texts are the words themselves.

@@ -1,3 +1,4 @@
+//! Words with and without a shape.
 use crate::reading::read_request;
 use crate::request::Request;
 use std::alloc::{AllocError, Global};
