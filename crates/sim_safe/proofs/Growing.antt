@@ -1,6 +1,6 @@
 -- Steps and runs over a trace that gets further records: what was done is done again, and shows the same.
-use Rattle.std.specs.Prelude.{◌≡◌, ◌+◌, ◌++◌, ℕ, zero, suc, Bool, true, false, List, [], ◌∷◌, Option, Some, None, Result, Ok, Err, slice_get, if◌then◌else◌}
-use Rattle.std.proofs.Common.{refl, sym, ap, ◌∙◌, subst, append-nil, append_assoc}
+use Rattle.std.specs.Prelude.{◌≡◌, ◌++◌, ℕ, zero, suc, Bool, true, false, List, [], ◌∷◌, Option, Some, None, Result, Ok, Err, slice_get, if◌then◌else◌}
+use Rattle.std.proofs.Common.{refl, sym, ap, ◌∙◌, subst}
 use Rattle.ecoff_load.specs.Fetch.{fetch}
 use Rattle.pisa_isa.specs.declared.instr.Instr.{Instr}
 use Rattle.pisa_isa.specs.Coding.{decoded}
@@ -14,7 +14,7 @@ use Rattle.sim_safe.specs.declared.record.CommitRecord.{CommitRecord}
 use Rattle.sim_safe.specs.State.{State, range_of}
 use Rattle.sim_safe.specs.Record.{Item, call_by, item_of}
 use Rattle.sim_safe.specs.Call.{comparisons, mismatch, block_in_text}
-use Rattle.sim_safe.specs.Step.{Outcome, Next, Halt, step_of, step_running, step_fetched, step_decoded, step_at, called, replayed, replayed_next, unrecorded, executed, unless, is_call, served, call_recorded}
+use Rattle.sim_safe.specs.Step.{Outcome, Next, step_of, step_running, step_fetched, step_decoded, called, replayed_next, unrecorded, executed, unless, is_call, served, call_recorded}
 use Rattle.sim_safe.specs.Run.{items_of, items_more}
 use Rattle.event_trace.specs.Recorder.{with_more}
 use Rattle.sim_safe.proofs.Steps.{Leads, Reaches}

@@ -11,4 +11,5 @@ pub mod Serving
 pub mod Starting
 pub mod OutputLength
 pub mod Parts
+pub mod Replays
 pub mod Recorded

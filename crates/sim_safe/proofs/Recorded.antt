@@ -1,6 +1,6 @@
 -- Recordings step by step.
 use Rattle.std.specs.Prelude.{◌≡◌, ◌<◌, ◌-◌, ◌+◌, ◌++◌, ◌≤◌, ℕ, zero, suc, Bool, true, false, List, [], ◌∷◌, Option, Some, None, Result, Ok, Err, if◌then◌else◌}
-use Rattle.std.proofs.Common.{refl, sym, ap, ◌∙◌, subst, arith, append-nil}
+use Rattle.std.proofs.Common.{refl, sym, ap, ◌∙◌, subst, arith}
 use Rattle.ss_base.specs.declared.fault.OutOfMemory.{OutOfMemory}
 use Rattle.pisa_step.specs.declared.cause.Cause.{Cause}
 use Rattle.pisa_step.specs.declared.cause.Cause.TheVariants as cause
@@ -14,16 +14,16 @@ use Rattle.sim_safe.specs.declared.record.Peek.{Peek}
 use Rattle.sim_safe.specs.declared.observer.RunEnd.TheVariants as ends
 use Rattle.sim_safe.specs.State.{State}
 use Rattle.sim_safe.specs.Step.{Outcome, Next, Halt, step_of, peek_of, peeked_at}
-use Rattle.sim_safe.specs.Run.{items_of, after, end_of}
+use Rattle.sim_safe.specs.Run.{items_of, items_front, after, end_of}
 use Rattle.sim_safe.specs.Advance.{AdvanceState}
 use Rattle.sim_safe.specs.declared.observer.Advance.TheVariants as advance
 use Rattle.sim_safe.specs.declared.observer.RunFault.{RunFault}
 use Rattle.sim_safe.specs.declared.observer.RunFault.TheVariants as faults
-use Rattle.sim_safe.specs.declared.recording.RecordEnd.TheVariants as record_ends
-use Rattle.sim_safe.specs.Recording.{is_trace_end, wants_record, taken, ready_if, ready, recording_after, recording_at, recording, serve, is_end_of_trace, Prepares, RecordState}
-use Rattle.sim_safe.proofs.Steps.{Reaches, end_stop, after_stop}
+use Rattle.sim_safe.specs.Recording.{wants_record, taken, ready_if, ready, recording_after, recording_at, recording, serve, is_end_of_trace, Prepares, RecordsFront, RecordState}
+use Rattle.sim_safe.proofs.Steps.{Reaches, reaches_on, end_stop, after_stop, after_all}
 use Rattle.sim_safe.proofs.Runs.{failed_state}
 use Rattle.sim_safe.proofs.Growing.{reaches_grown, items_grown}
+use Rattle.sim_safe.proofs.Replays.{ready_more, full_halts, recording_from, recording_more}
 
 -- ---- what is ready for a step
 
@@ -68,26 +68,11 @@ ready_with p old new s (Ok false) e f t =
     (ready_is old.world old.trace s true b ∙ taken_if false old.trace (serve old.world s) t.1, t.0)
 ready_with p old new s (Err x) e f t = t
 
-with_none : (t : Trace) → t ≡ with_more t []
-with_none t = ap (λ x. record t { records = x }) (sym (append-nil t.records))
-
-abbrev second_of : Option (WorldState × Trace) → Trace → Trace
-second_of None otherwise = otherwise
-second_of (Some m) otherwise = m.1
-
-grown_taken : (b : Bool) (t : Trace) (answer : Record × WorldState) (v : WorldState) (u : Trace) → (if b then some_of t answer else None) ≡ pair_of v u
-    → (more : List Record) × (u ≡ with_more t more)
-grown_taken true t answer v u e = (answer.0 ∷ [], let k : with_more t (answer.0 ∷ []) ≡ u = ap (λ x. second_of x t) e in sym k)
-grown_taken false t answer v u e = cc
-
-grown_if : (b : Bool) (w : WorldState) (t : Trace) (s : State) (v : WorldState) (u : Trace) → ready_if serve w t s b ≡ pair_of v u → (more : List Record) × (u ≡ with_more t more)
-grown_if true w t s v u e = grown_taken (is_within_limits (with_more t ((serve w s).0 ∷ []))) t (serve w s) v u e
-grown_if false w t s v u e = ([], let k : t ≡ u = ap (λ x. second_of x t) e in sym k ∙ with_none t)
-
--- a trace that is ready has the records that were there, and perhaps one more
-pub ready_grows : (w : WorldState) (t : Trace) (s : State) (v : WorldState) (u : Trace) → ready serve w t s ≡ pair_of v u → (more : List Record) × (u ≡ with_more t more)
-unfolding ready
-ready_grows w t s v u e = grown_if (wants_record (step_of t s)) w t s v u e
+-- a trace that takes a record stays one with a file
+pub takes_file : (answer : Record × WorldState) (old new : RecorderState) (result : Result Bool OutOfMemory) → old.trace.file ≡ true → Takes answer old new result → new.trace.file ≡ true
+takes_file answer old new (Ok true) f t = ap (λ x. x.trace.file) t.0 ∙ f
+takes_file answer old new (Ok false) f t = ap (λ x. x.file) t.0 ∙ f
+takes_file answer old new (Err x) f t = ap (λ x. x.file) t ∙ f
 
 -- what a recorder that is ready leaves
 pub prepared_true : (old new : RecorderState) (s : State) (b : Bool) → b ≡ true → Prepares old new s (Ok b) → ready serve old.world old.trace s ≡ pair_of new.world new.trace
@@ -101,7 +86,7 @@ prepared_false old new s false e p = p
 -- steps that were done are done over the trace that is ready, and show the same
 pub reaches_ready : (w : WorldState) (t : Trace) (at : State) (v : WorldState) (u : Trace) (n : ℕ) (s x : State) → u.file ≡ true → ready serve w t at ≡ pair_of v u → Reaches t n s x → Reaches u n s x
 reaches_ready w t at v u n s x f e l =
-    let g = ready_grows w t at v u e in
+    let g = ready_more serve w t at v u e in
     let k : t.file ≡ true = sym (ap (λ y. y.file) g.1) ∙ f in
     let P : Trace → Type 0 = λ y. Reaches y n s x in
     subst P (sym g.1) (reaches_grown t g.0 n s x k l)
@@ -109,7 +94,7 @@ reaches_ready w t at v u n s x f e l =
 pub items_ready : (w : WorldState) (t : Trace) (at : State) (v : WorldState) (u : Trace) (n : ℕ) (s x : State) → u.file ≡ true → ready serve w t at ≡ pair_of v u → Reaches t n s x
     → items_of t n s ≡ items_of u n s
 items_ready w t at v u n s x f e l =
-    let g = ready_grows w t at v u e in
+    let g = ready_more serve w t at v u e in
     let k : t.file ≡ true = sym (ap (λ y. y.file) g.1) ∙ f in
     items_grown t g.0 n s x k l ∙ ap (λ y. items_of y n s) (sym g.1)
 
@@ -147,36 +132,11 @@ recording_none (suc k) w t s e = absurd (omega arith)
 
 -- ---- where the trace is full
 
-stops_if : (b : Bool) (w : WorldState) (t : Trace) (s : State) → ready_if serve w t s b ≡ None → b ≡ true
-stops_if true w t s e = refl
-stops_if false w t s e = cc
-
-cause_is : (why : Cause) → is_trace_end why ≡ true → (used : ℕ) × (why ≡ cause.TraceEnd used)
-cause_is (cause.Exited code) e = cc
-cause_is cause.BadFetch e = cc
-cause_is cause.Illegal e = cc
-cause_is (cause.FloatingPoint opcode) e = cc
-cause_is (cause.Misaligned addr) e = cc
-cause_is cause.Overflow e = cc
-cause_is cause.DivideByZero e = cc
-cause_is (cause.TextWrite addr) e = cc
-cause_is cause.Break e = cc
-cause_is (cause.TraceEnd used) e = (used, refl)
-cause_is (cause.TraceMismatch f kept found) e = cc
-
-halt_is : (o : Outcome) → wants_record o ≡ true → (used : ℕ) × (Halt (cause.TraceEnd used) ≡ o)
-halt_is (Next r s) e = cc
-halt_is (Halt why) e = let c : (used : ℕ) × (why ≡ cause.TraceEnd used) = cause_is why e in (c.0, ap Halt (sym c.1))
-
-full_halts : (w : WorldState) (t : Trace) (s : State) → ready serve w t s ≡ None → (used : ℕ) × (Halt (cause.TraceEnd used) ≡ step_of t s)
-unfolding ready
-full_halts w t s e = halt_is (step_of t s) (stops_if (wants_record (step_of t s)) w t s e)
-
 -- the run over a full trace stops at the call that found no room
 pub full_stops : (w : WorldState) (t : Trace) (done n : ℕ) (s x : State) → ready serve w t x ≡ None → Reaches t done s x → done < n
     → (used : ℕ) × (Halt (cause.TraceEnd used) ≡ step_of t x) × (end_of t n s ≡ ends.Stop (cause.TraceEnd used))
 full_stops w t done n s x e l h =
-    let k : (used : ℕ) × (Halt (cause.TraceEnd used) ≡ step_of t x) = full_halts w t x e in
+    let k : (used : ℕ) × (Halt (cause.TraceEnd used) ≡ step_of t x) = full_halts serve w t x e in
     (k.0, k.1, sym (end_stop t done n s x (cause.TraceEnd k.0) l h k.1))
 
 pub full_state : (w : WorldState) (t u : Trace) (done n : ℕ) (s x : State) → ready serve w t x ≡ None → u ≡ t → Reaches t done s x → done < n
@@ -192,3 +152,53 @@ pub recorded_failed : {F : Type 0} (trace : Trace) (n done : ℕ) (s t u : State
     → RecordState trace n s u (Err f)
 recorded_failed {F = F} trace n done s t u (faults.Watch f) l i d st = failed_state {F = F} trace n done s t u (faults.Watch f) l i d st
 recorded_failed {F = F} trace n done s t u faults.OutOfMemory l i d st = failed_state {F = F} trace n done s t u faults.OutOfMemory l i d st
+
+-- ---- where a recording is given up
+
+-- steps that were done are a front of the run over a trace with more records
+front_grown : (whole part : Trace) (n done : ℕ) (s t : State) → (more : List Record) × (whole ≡ with_more part more) → part.file ≡ true → done ≤ n → Reaches part done s t
+    → RecordsFront whole part n done s t
+front_grown whole part n done s t g f h l =
+    let run : Trace = with_more part g.0 in
+    let front = items_front run done n s h in
+    let P : Trace → Type 0 = λ x. RecordsFront x part n done s t in
+    subst P (sym g.1) (record {
+      records = (g.0, refl);
+      more = front.0;
+      items = front.1 ∙ ap (λ x. x ++ front.0) (sym (items_grown part g.0 done s t f l));
+      state = after_all run done s t (reaches_grown part g.0 done s t f l);
+    })
+
+failed_front : {F : Type 0} (whole part : Trace) (n done : ℕ) (s t u : State) (f : RunFault F) → (more : List Record) × (whole ≡ with_more part more) → part.file ≡ true
+    → done < n → Reaches part done s t → t.icnt ≡ s.icnt + done → AdvanceState part t u (advance.Failed f)
+    → RecordsFront whole part n (u.icnt - s.icnt) s u
+failed_front whole part n done s t u (faults.Watch f) g file d l i st =
+    let z : u.icnt - s.icnt ≡ done + 1 = omega arith in
+    let P : ℕ → Type 0 = λ k. RecordsFront whole part n k s u in
+    subst P (sym z) (front_grown whole part n (done + 1) s u g file (omega arith) (reaches_on part done s t u st.0 l st.1))
+failed_front whole part n done s t u faults.OutOfMemory g file d l i st =
+    let e : u.icnt ≡ t.icnt = ap (λ x. x.icnt) st in
+    let z : u.icnt - s.icnt ≡ done = omega arith in
+    let P : ℕ → Type 0 = λ k. RecordsFront whole part n k s u in
+    let Q : State → Type 0 = λ x. RecordsFront whole part n done s x in
+    subst P (sym z) (subst Q (sym st) (front_grown whole part n done s t g file (omega arith) l))
+
+-- at the next step, over a trace that is ready
+pub front_failed : {F : Type 0} (k : ℕ) (whole : Trace × Bool) (w : WorldState) (t : Trace) (v : WorldState) (u : Trace) (n done : ℕ) (s x y : State) (f : RunFault F)
+    → recording serve k w t x ≡ whole → ready serve w t x ≡ pair_of v u → u.file ≡ true → 0 < k → done < n → Reaches u done s x → x.icnt ≡ s.icnt + done → AdvanceState u x y (advance.Failed f)
+    → RecordsFront whole.0 u n (y.icnt - s.icnt) s y
+front_failed k whole w t v u n done s x y f calls r file h d l i st =
+    let g = recording_from serve k w t x v u h r in
+    failed_front whole.0 u n done s x y f (g.0, sym (ap (λ p. p.0) calls) ∙ g.1) file d l i st
+
+-- and before it, since there was no memory for its record
+pub front_unready : (k : ℕ) (whole : Trace × Bool) (w : WorldState) (t u : Trace) (n done : ℕ) (s x : State)
+    → recording serve k w t x ≡ whole → u ≡ t → u.file ≡ true → done < n → Reaches t done s x → x.icnt ≡ s.icnt + done
+    → RecordsFront whole.0 u n (x.icnt - s.icnt) s x
+front_unready k whole w t u n done s x calls e file d l i =
+    let z : x.icnt - s.icnt ≡ done = omega arith in
+    let P : ℕ → Type 0 = λ m. RecordsFront whole.0 u n m s x in
+    let R : Trace → Type 0 = λ y. Reaches y done s x in
+    let g = recording_more serve k w t x in
+    let grown : whole.0 ≡ with_more u g.0 = sym (ap (λ p. p.0) calls) ∙ g.1 ∙ ap (λ y. with_more y g.0) (sym e) in
+    subst P (sym z) (front_grown whole.0 u n done s x (g.0, grown) file (omega arith) (subst R (sym e) l))

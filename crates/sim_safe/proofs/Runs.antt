@@ -1,16 +1,15 @@
 -- Steps of an observed run one after the other.
-use Rattle.std.specs.Prelude.{◌≡◌, ◌<◌, ◌-◌, ◌+◌, ◌≤◌, ℕ, zero, suc, List, ◌∷◌, Result, Ok, Err}
+use Rattle.std.specs.Prelude.{◌≡◌, ◌<◌, ◌-◌, ◌+◌, ◌≤◌, ℕ, zero, suc, List, Err}
 use Rattle.std.proofs.Common.{refl, sym, ap, ◌∙◌, subst, arith}
 use Rattle.event_trace.specs.declared.trace.Trace.{Trace}
 use Rattle.pisa_step.specs.declared.cause.Cause.{Cause}
-use Rattle.sim_safe.specs.declared.observer.RunEnd.{RunEnd}
 use Rattle.sim_safe.specs.declared.observer.RunEnd.TheVariants as ends
 use Rattle.sim_safe.specs.declared.observer.RunFault.{RunFault}
 use Rattle.sim_safe.specs.declared.observer.RunFault.TheVariants as faults
 use Rattle.sim_safe.specs.declared.observer.Advance.TheVariants as advance
-use Rattle.sim_safe.specs.Step.{Next, Halt, step_of}
+use Rattle.sim_safe.specs.Step.{Halt, step_of}
 use Rattle.sim_safe.specs.State.{State}
-use Rattle.sim_safe.specs.Record.{Item, item_of}
+use Rattle.sim_safe.specs.Record.{Item}
 use Rattle.sim_safe.specs.Commit.{onto}
 use Rattle.sim_safe.specs.Run.{items_of, after, end_of}
 use Rattle.sim_safe.proofs.Steps.{Reaches, reaches_none, reaches_on, onto_on, items_stop, after_stop, end_stop, after_all}

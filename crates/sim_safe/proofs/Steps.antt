@@ -1,15 +1,15 @@
 -- Steps that lead from one state to another, and the runs that begin with them.
-use Rattle.std.specs.Prelude.{◌≡◌, ◌<◌, ◌-◌, ◌+◌, ◌++◌, ◌≤◌, ℕ, zero, suc, List, [], ◌∷◌, length, Option, Some, None}
+use Rattle.std.specs.Prelude.{◌≡◌, ◌<◌, ◌-◌, ◌+◌, ◌++◌, ◌≤◌, ℕ, zero, suc, List, [], ◌∷◌}
 use Rattle.std.proofs.Common.{refl, sym, ap, ◌∙◌, arith, append-nil}
 use Rattle.pisa_step.specs.declared.cause.Cause.{Cause}
 use Rattle.sim_safe.specs.declared.observer.RunEnd.TheVariants as ends
 use Rattle.event_trace.specs.declared.trace.Trace.{Trace}
 use Rattle.sim_safe.specs.declared.record.CommitRecord.{CommitRecord}
 use Rattle.sim_safe.specs.State.{State}
-use Rattle.sim_safe.specs.Step.{Outcome, Next, Halt, step_of}
+use Rattle.sim_safe.specs.Step.{Next, Halt, step_of}
 use Rattle.sim_safe.specs.Record.{Item, item_of}
 use Rattle.sim_safe.specs.Commit.{onto}
-use Rattle.sim_safe.specs.Run.{items_of, items_more, after, after_more, end_from, end_more, end_of, end_at_budget}
+use Rattle.sim_safe.specs.Run.{items_of, after, end_from, end_of, end_at_budget}
 
 -- n steps lead from a state to another
 unfoldable pub Leads : Trace → ℕ → State → State → Type 0

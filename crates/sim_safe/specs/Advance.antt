@@ -2,7 +2,6 @@
 use Rattle.std.specs.Prelude.{◌≡◌, ◌+◌, ℕ, List, ◌∷◌}
 use Rattle.event_trace.specs.declared.trace.Trace.{Trace}
 use Rattle.sim_safe.specs.declared.observer.Meaning.{Meaning}
-use Rattle.sim_safe.specs.declared.observer.RunFault.{RunFault}
 use Rattle.sim_safe.specs.declared.observer.RunFault.TheVariants as faults
 use Rattle.sim_safe.specs.declared.observer.Advance.{Advance}
 use Rattle.sim_safe.specs.declared.observer.Advance.TheVariants as advance

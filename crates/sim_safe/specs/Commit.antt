@@ -1,7 +1,7 @@
 -- The commit text: a line for each instruction that is done; and the output of a run.
 use Rattle.std.specs.Prelude.{◌≡◌, ◌++◌, ℕ, List, [], ◌∷◌, length, Option, Some, None, codes, decimal}
 use Rattle.std.specs.List.{flat_map}
-use Rattle.std.proofs.Common.{refl, sym, ap, ◌∙◌, append_assoc, append-nil}
+use Rattle.std.proofs.Common.{sym, ◌∙◌, append_assoc, append-nil}
 use Rattle.ss_base.specs.Text.{hex8, hex_bytes}
 use Rattle.pisa_isa.specs.Texts.{name_of}
 use Rattle.pisa_step.specs.declared.changes.MemWrite.{MemWrite}

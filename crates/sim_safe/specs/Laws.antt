@@ -1,5 +1,11 @@
--- Laws of steps.
-use Rattle.std.specs.Prelude.{◌≡◌, ◌+◌, ◌<◌, ◌≤◌, ℕ, length}
+-- Laws of steps and of recordings.
+use Rattle.std.specs.Prelude.{◌≡◌, ◌+◌, ◌<◌, ◌≤◌, ℕ, List, length}
+use Rattle.pisa_step.specs.declared.cause.Cause.TheVariants as cause
+use Rattle.event_trace.specs.declared.trace.Record.{Record}
+use Rattle.event_trace.specs.declared.trace.Trace.{Trace}
+use Rattle.event_trace.specs.Recorder.{with_more}
+use Rattle.sim_safe.specs.declared.observer.RunEnd.{RunEnd}
+use Rattle.sim_safe.specs.declared.observer.RunEnd.TheVariants as ends
 use Rattle.sim_safe.specs.State.{State}
 use Rattle.sim_safe.specs.Step.{Outcome, Next, Halt}
 
@@ -19,3 +25,11 @@ pub record KeepsOn (s t : State) : Type 0 where
 abbrev pub StepKeeps : State → Outcome → Type 0
 StepKeeps s (Next r t) = KeepsOn s t
 StepKeeps s (Halt why) = Unit {0}
+
+-- a trace is another one with further records at its end
+abbrev pub IsGrown : Trace → Trace → Type 0
+IsGrown t u = (more : List Record) × (u ≡ with_more t more)
+
+-- a run ends since no record is left for a call
+abbrev pub StopsForRecord : RunEnd → Type 0
+StopsForRecord e = (used : ℕ) × (e ≡ ends.Stop (cause.TraceEnd used))

@@ -1,5 +1,5 @@
 -- The record of what an instruction did, and what is observed of it.
-use Rattle.std.specs.Prelude.{◌≡◌, ◌⊎◌, ℕ, List, Bool, true, false, Option, Some, None, slice_get, if◌then◌else◌}
+use Rattle.std.specs.Prelude.{◌≡◌, ◌⊎◌, Option, Some, None, slice_get, if◌then◌else◌}
 use Rattle.event_trace.specs.declared.trace.Record.{Record}
 use Rattle.event_trace.specs.declared.trace.Trace.{Trace}
 use Rattle.event_trace.specs.Grammar.{IsTrace, absent_trace}

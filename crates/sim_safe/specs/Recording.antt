@@ -1,5 +1,5 @@
 -- Runs that are recorded: a trace that grows by a record for each call that finds none left.
-use Rattle.std.specs.Prelude.{◌≡◌, ◌-◌, ◌<◌, ◌≤◌, ℕ, zero, suc, Bool, true, false, [], ◌∷◌, Option, Some, None, Result, Ok, Err, if◌then◌else◌}
+use Rattle.std.specs.Prelude.{◌≡◌, ◌-◌, ◌<◌, ◌≤◌, ◌++◌, ℕ, zero, suc, Bool, true, false, List, [], ◌∷◌, Option, Some, None, Result, Ok, Err, if◌then◌else◌}
 use Rattle.pisa_step.specs.declared.cause.Cause.{Cause}
 use Rattle.pisa_step.specs.declared.cause.Cause.TheVariants as cause
 use Rattle.event_trace.specs.declared.trace.Record.{Record}
@@ -7,7 +7,6 @@ use Rattle.event_trace.specs.declared.trace.Trace.{Trace}
 use Rattle.event_trace.specs.World.{WorldState, served}
 use Rattle.event_trace.specs.Recorder.{RecorderState, with_more, is_within_limits}
 use Rattle.ss_base.specs.declared.fault.OutOfMemory.{OutOfMemory}
-use Rattle.sim_safe.specs.declared.observer.RunEnd.{RunEnd}
 use Rattle.sim_safe.specs.declared.observer.RunEnd.TheVariants as ends
 use Rattle.sim_safe.specs.declared.observer.RunFault.{RunFault}
 use Rattle.sim_safe.specs.declared.observer.RunFault.TheVariants as faults
@@ -17,7 +16,8 @@ use Rattle.sim_safe.specs.declared.record.Peek.{Peek}
 use Rattle.sim_safe.specs.declared.record.Peek.TheVariants as peek
 use Rattle.sim_safe.specs.State.{State}
 use Rattle.sim_safe.specs.Step.{Outcome, Next, Halt, step_of}
-use Rattle.sim_safe.specs.Run.{after, end_of}
+use Rattle.sim_safe.specs.Record.{Item}
+use Rattle.sim_safe.specs.Run.{items_of, after, end_of}
 
 -- a step stops since no record is left for its call
 abbrev pub is_trace_end : Cause → Bool
@@ -71,11 +71,19 @@ Prepares old new s (Ok true) = ready serve old.world old.trace s ≡ Some (new.w
 Prepares old new s (Ok false) = (ready serve old.world old.trace s ≡ None) × (new.trace ≡ old.trace)
 Prepares old new s (Err _) = new.trace ≡ old.trace
 
--- the trace that was made where the run wasn't given up
-abbrev pub Records : {F : Type 0} → ℕ → RecorderState → State → RecorderState → Result RecordEnd (RunFault F) → Type 0
-Records n old s new (Ok (record_ends.Run e)) = recording serve n old.world old.trace s ≡ (new.trace, false)
-Records n old s new (Ok record_ends.Full) = recording serve n old.world old.trace s ≡ (new.trace, true)
-Records n old s new (Err f) = Unit {0}
+-- what a run that was given up did is a front of the recorded run: its records and items are the first
+-- ones, and its state is one on the way
+pub record RecordsFront (whole part : Trace) (n done : ℕ) (s t : State) : Type 0 where
+  pub records : (rest : List Record) × (whole ≡ with_more part rest)
+  pub more : List Item
+  pub items : items_of whole n s ≡ items_of part done s ++ more
+  pub state : t ≡ after whole done s
+
+-- the trace that was made, and whether it was full; a run that was given up did a front of that run
+abbrev pub Records : {F : Type 0} → ℕ → RecorderState → State → RecorderState → State → Result RecordEnd (RunFault F) → Type 0
+Records n old s new t (Ok (record_ends.Run e)) = recording serve n old.world old.trace s ≡ (new.trace, false)
+Records n old s new t (Ok record_ends.Full) = recording serve n old.world old.trace s ≡ (new.trace, true)
+Records n old s new t (Err f) = RecordsFront (recording serve n old.world old.trace s).0 new.trace n (t.icnt - s.icnt) s t
 
 -- the state and the end, which are those of the run over the trace that was made; where that was full,
 -- the run over it stops at a call for which no record is left

@@ -1,12 +1,10 @@
 -- Whole runs: what the first n steps from a state do, and how they end.
 use Rattle.std.specs.Prelude.{◌≡◌, ◌++◌, ◌≤◌, ℕ, zero, suc, List, [], ◌∷◌, length, Option, Some, None}
 use Rattle.std.proofs.Common.{refl, ap, arith}
-use Rattle.pisa_step.specs.declared.cause.Cause.{Cause}
 use Rattle.pisa_step.specs.declared.cause.Cause.TheVariants as cause
 use Rattle.sim_safe.specs.declared.observer.RunEnd.{RunEnd}
 use Rattle.sim_safe.specs.declared.observer.RunEnd.TheVariants as ends
 use Rattle.event_trace.specs.declared.trace.Trace.{Trace}
-use Rattle.sim_safe.specs.declared.record.CommitRecord.{CommitRecord}
 use Rattle.sim_safe.specs.State.{State}
 use Rattle.sim_safe.specs.Step.{Outcome, Next, Halt, step_of}
 use Rattle.sim_safe.specs.Record.{Item, item_of}

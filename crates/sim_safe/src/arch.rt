@@ -76,7 +76,7 @@ impl Arch {
         &self.text
     }
 
-    /// The whole memory, with the text's bytes in it.
+    /// The memory. The text can be read in it.
     pub fn mem(&self) -> &PagedMem
         ensures { result.now ≡ self.now.pages }
     {

@@ -3,7 +3,9 @@
 //! `Arch` is the state of the machine. `start` gives the state in which a program starts; `step`
 //! does the next instruction or stops, exactly as the definition says, and `peek` tells which; `run`
 //! does many steps and shows each record to an observer; `record` does the same while the closed
-//! world answers the system calls, and leaves the trace over which `run` does it again.
+//! world answers the system calls, and leaves the trace over which `run` does it again. After a
+//! fault both leave the state after the steps that were done, and those of `record` are the first
+//! steps of the recording without a fault.
 //! `commit_line`, `push_end` and `Statistics` give the texts and counts of a run.
 #![tactic(auto)]
 
@@ -27,7 +29,7 @@ mod texts_tests;
 pub use arch::Arch;
 pub use commit::{commit_line, emitted};
 pub use ends::push_end;
-pub use laws::steps_keep;
+pub use laws::{full_recordings_stop, recordings_add_records, steps_keep};
 pub use observer::{Meaning, Observer, RunEnd, RunFault};
 pub use record::{CallNote, CommitRecord, Peek, Stepped};
 pub use recording::RecordEnd;

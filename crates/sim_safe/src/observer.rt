@@ -96,9 +96,10 @@ impl Arch {
 
     /// Does up to `n` steps over a trace, and shows each instruction that is done to an observer.
     ///
-    /// `Limit` comes exactly where `n` instructions were done and the last was no exit, or `n` is 0.
-    /// After a fault the state is that after the steps that were done; the observer has taken
-    /// their records, and where it failed itself, all but the last.
+    /// It ends with `Limit` where the budget of `n` instructions was used up without an exit at its
+    /// end, and only there; with a budget of 0 always. After a fault the state is that after the
+    /// steps that were done; the observer has taken their records, and where it failed itself, all
+    /// but the last.
     #[tactic(auto, using(crate::proofs::Steps::items_none, crate::proofs::Steps::reaches_none, crate::proofs::Steps::reaches_on, crate::proofs::Steps::onto_on, crate::proofs::Steps::items_stop, crate::proofs::Steps::after_stop, crate::proofs::Steps::end_stop, crate::proofs::Steps::after_all, crate::proofs::Steps::end_all))]
     pub fn run<O: Observer>(
         &mut self,

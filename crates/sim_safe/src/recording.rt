@@ -1,5 +1,5 @@
 //! Runs that are recorded: each call that finds no record left is answered by the closed world.
-ghost use Rattle.std.specs.Prelude.{◌≡◌, ◌+◌, ◌^◌, ◌≤◌, ℕ, List, ◌∷◌, slice_index, IfOk};
+ghost use Rattle.std.specs.Prelude.{◌≡◌, ◌+◌, ◌^◌, ◌≤◌, ℕ, List, ◌∷◌, true, slice_index, IfOk};
 ghost use Rattle.event_trace.specs.Recorder.{next_count};
 ghost use Rattle.sim_safe.specs.State.{state_of, reader_of};
 ghost use Rattle.sim_safe.specs.Record.{Item, IsRunTrace};
@@ -53,11 +53,12 @@ impl Arch {
 
     /// Has the next step's call recorded, where the trace has no record for it. False where the
     /// trace is full.
-    #[tactic(auto, using(crate::proofs::Recorded::ready_without, crate::proofs::Recorded::ready_with))]
+    #[tactic(auto, using(crate::proofs::Recorded::ready_without, crate::proofs::Recorded::ready_with, crate::proofs::Recorded::takes_file))]
     fn prepare(&self, alloc: Global, recorder: &mut Recorder) -> Result<bool, OutOfMemory>
         requires count { self.now.icnt ≤ 10 ^ 15 }
         requires rising { next_count 0 recorder.old.trace.records ≤ self.now.icnt }
         ensures ready { Prepares recorder.old recorder.new (state_of self.now) result }
+        ensures file { recorder.new.trace.file ≡ true }
         ensures rising { IfOk result (λ _. next_count 0 recorder.new.trace.records ≤ self.now.icnt + 1) }
     {
         if !wants(self.peek(recorder.trace())) {
@@ -73,6 +74,10 @@ impl Arch {
     ///
     /// `Full` comes where the record of the next call would bring the trace above its limits. The
     /// run over the trace then stops at that call, since no record is left.
+    ///
+    /// After a fault the state is that after the steps that were done, and the run over the trace
+    /// that is left does them again. They are the first steps of the whole recording, the one
+    /// without a fault: the run over its trace begins with what was shown, and comes to this state.
     #[tactic(auto, using(crate::proofs::Steps::items_none, crate::proofs::Steps::reaches_none, crate::proofs::Steps::after_all, crate::proofs::Steps::end_all))]
     pub fn record<O: Observer>(
         &mut self,
@@ -83,7 +88,7 @@ impl Arch {
     ) -> Result<RecordEnd, RunFault<O::Fault>>
         requires count { self.old.icnt + n ≤ 10 ^ 15 }
         requires rising { next_count 0 recorder.old.trace.records ≤ self.old.icnt }
-        ensures trace { Records n recorder.old (state_of self.old) recorder.new result }
+        ensures trace { Records n recorder.old (state_of self.old) recorder.new (state_of self.new) result }
         ensures took { (start : O) (h : List Item) → O.took start h o.old → RunTook O.took O.cut recorder.new.trace n (state_of self.old) (state_of self.new) start h o.new result }
         ensures state { RecordState recorder.new.trace n (state_of self.old) (state_of self.new) result }
         ensures count { RunCounts O.means (O.faults o.old) (O.faults o.new) result }

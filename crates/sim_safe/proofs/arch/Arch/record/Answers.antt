@@ -1,7 +1,7 @@
 use Rattle.std.proofs.Common.{◌≡◌, ◌+◌, ◌-◌, ◌<◌, ◌∙◌, List, true, sym, ap, subst, arith}
 use Rattle.event_trace.specs.declared.trace.Trace.{Trace}
 use Rattle.sim_safe.specs.declared.record.CommitRecord.{CommitRecord}
-use Rattle.sim_safe.specs.State.{State, state_of}
+use Rattle.sim_safe.specs.State.{state_of}
 use Rattle.sim_safe.specs.Record.{Item}
 use Rattle.sim_safe.specs.declared.recording.RecordEnd.{RecordEnd}
 use Rattle.sim_safe.specs.Commit.{onto}
@@ -9,10 +9,10 @@ use Rattle.sim_safe.specs.Step.{Next, Halt, step_of}
 use Rattle.sim_safe.specs.Run.{items_of}
 use Rattle.sim_safe.specs.Advance.{AdvanceState, AdvanceTook}
 use Rattle.sim_safe.specs.declared.observer.Advance.TheVariants.{Going, Failed}
-use Rattle.sim_safe.specs.Recording.{recording, ready, serve}
-use Rattle.sim_safe.proofs.Steps.{Reaches, reaches_on, onto_on, after_stop, items_stop}
-use Rattle.sim_safe.proofs.Runs.{failed_took, failed_state, stopped_took, stopped_state, none_state}
-use Rattle.sim_safe.proofs.Recorded.{prepared_true, prepared_false, reaches_ready, items_ready, recording_on, recording_over, recording_full, recording_none, full_stops, full_state, recorded_failed}
+use Rattle.sim_safe.specs.Recording.{recording, serve}
+use Rattle.sim_safe.proofs.Steps.{reaches_on, onto_on}
+use Rattle.sim_safe.proofs.Runs.{failed_took, stopped_took, stopped_state, none_state}
+use Rattle.sim_safe.proofs.Recorded.{prepared_true, prepared_false, reaches_ready, items_ready, recording_on, recording_over, recording_full, recording_none, full_stops, full_state, recorded_failed, front_failed, front_unready}
 use Rattle.sim_safe.proofs.arch.Arch.record.Goals as goal
 
 pub returns-then-n-eq0-clause-trace : goal.returns-then-n-eq0-clause-trace
@@ -41,6 +41,13 @@ pub returns-in-Ok-false-clause-state : goal.returns-in-Ok-false-clause-state
 returns-in-Ok-false-clause-state g c =
     let p = prepared_false c.loop-done.recorder c.prepare.new.recorder (state_of c.loop-done.self) c.in-Ok-false.field-0 c.in-Ok-false.field-0-test c.in-Ok-false.ensures.ready in
     full_state c.loop-done.recorder.world c.loop-done.recorder.trace c.prepare.new.recorder.trace c.loop-done.done c.args.n (state_of c.args.self.now) (state_of c.loop-done.self) p.0 p.1 c.loop-done.invariant.reaches c.loop-done-test.true
+
+pub returns-in-Err-clause-trace : goal.returns-in-Err-clause-trace
+returns-in-Err-clause-trace g c =
+    let whole = recording serve c.args.n c.args.recorder.now.world c.args.recorder.now.trace (state_of c.args.self.now) in
+    front_unready (c.args.n - c.loop-done.done) whole c.loop-done.recorder.world c.loop-done.recorder.trace c.prepare.new.recorder.trace
+    c.args.n c.loop-done.done (state_of c.args.self.now) (state_of c.loop-done.self)
+    c.loop-done.invariant.calls c.in-Err.ensures.ready c.in-Err.ensures.file c.loop-done-test.true c.loop-done.invariant.reaches c.loop-done.invariant.icnt
 
 pub returns-in-Ended-clause-trace : goal.returns-in-Ended-clause-trace
 returns-in-Ended-clause-trace g c =
@@ -74,6 +81,20 @@ returns-in-Ended-clause-state g c =
     let P : Trace → Type 0 = λ x. Halt c.in-Ended.cause ≡ step_of x (state_of c.loop-done.self) in
     stopped_state T c.args.n c.loop-done.done (state_of c.args.self.now) (state_of c.loop-done.self) (state_of c.advance.new.self) c.in-Ended.cause
     reach c.loop-done-test.true (subst P c.trace.ensures.same c.in-Ended.ensures.state.0, c.in-Ended.ensures.state.1)
+
+pub returns-in-Failed-clause-trace : goal.returns-in-Failed-clause-trace
+returns-in-Failed-clause-trace g c =
+    let T : Trace = c.prepare.new.recorder.trace in
+    let whole = recording serve c.args.n c.args.recorder.now.world c.args.recorder.now.trace (state_of c.args.self.now) in
+    let r = prepared_true c.loop-done.recorder c.prepare.new.recorder (state_of c.loop-done.self) c.in-Ok-true.field-0 c.in-Ok-true.field-0-test c.in-Ok-true.ensures.ready in
+    let F : Trace → Type 0 = λ x. x.file ≡ true in
+    let file : T.file ≡ true = subst F c.trace.ensures.same c.trace.ensures.valid.file in
+    let reach = reaches_ready c.loop-done.recorder.world c.loop-done.recorder.trace (state_of c.loop-done.self) c.prepare.new.recorder.world T c.loop-done.done (state_of c.args.self.now) (state_of c.loop-done.self) file r c.loop-done.invariant.reaches in
+    let S : Trace → Type 0 = λ x. AdvanceState x (state_of c.loop-done.self) (state_of c.advance.new.self) (Failed c.in-Failed.fault) in
+    let more : 0 < c.args.n - c.loop-done.done = omega (arith, c.loop-done-test.true) in
+    front_failed (c.args.n - c.loop-done.done) whole c.loop-done.recorder.world c.loop-done.recorder.trace c.prepare.new.recorder.world T
+    c.args.n c.loop-done.done (state_of c.args.self.now) (state_of c.loop-done.self) (state_of c.advance.new.self) c.in-Failed.fault
+    c.loop-done.invariant.calls r file more c.loop-done-test.true reach c.loop-done.invariant.icnt (subst S c.trace.ensures.same c.in-Failed.ensures.state)
 
 pub returns-in-Failed-clause-took : goal.returns-in-Failed-clause-took
 returns-in-Failed-clause-took g c = λ start h k.

@@ -1,4 +1,4 @@
-use Rattle.std.proofs.Common.{◌≡◌, ◌+◌, ◌-◌, ◌≤◌, List, true}
+use Rattle.std.proofs.Common.{◌≡◌, ◌+◌, ◌-◌, ◌≤◌, List}
 use Rattle.event_trace.specs.Recorder.{next_count}
 use Rattle.sim_safe.specs.State.{state_of}
 use Rattle.sim_safe.specs.Record.{Item}
