@@ -2,3 +2,4 @@ mod Texts
 mod Countable
 mod Totals
 mod Whole
+mod Recordings

@@ -1,14 +1,17 @@
 -- The counts of a run are those of its history.
-use Rattle.std.specs.Prelude.{◌≡◌, ◌+◌, ℕ, List, [], ◌∷◌, length, sum_by}
+use Rattle.std.specs.Prelude.{◌≡◌, ◌+◌, ◌^◌, ◌<◌, ℕ, List, [], ◌∷◌, length, sum_by}
 use Rattle.std.proofs.Common.{refl, ap, ◌∙◌, arith}
 use Rattle.std.proofs.lemmas.List.Sums.{sum_by-cons}
+use Rattle.event_trace.specs.declared.trace.Trace.{Trace}
 use Rattle.sim_safe.specs.declared.statistics.Statistics.{Statistics}
+use Rattle.sim_safe.specs.State.{State}
 use Rattle.sim_safe.specs.Record.{Item}
 use Rattle.sim_safe.specs.Commit.{onto}
+use Rattle.sim_safe.specs.Run.{items_of, items_count}
 use Rattle.sim_safe.specs.Statistics.{statistics_back}
 use Rattle.sim_watch.specs.Statistics.{loads_in, stores_in, branches_in, calls_in, statistics_of}
 
-pub length_onto : (is h : List Item) → length (onto is h) ≡ length h + length is
+length_onto : (is h : List Item) → length (onto is h) ≡ length h + length is
 length_onto [] h = omega arith
 length_onto (i ∷ is) h = let k : length (onto is (i ∷ h)) ≡ length (i ∷ h) + length is = length_onto is (i ∷ h) in omega arith
 
@@ -46,7 +49,7 @@ same_statistics a b p q r s t =
     let calls : ℕ → Statistics = λ x. record { insn = b.insn; loads = b.loads; stores = b.stores; branches = b.branches; calls = x } in
     ap insn p ∙ ap loads q ∙ ap stores r ∙ ap branches s ∙ ap calls t
 
-pub statistics_onto : (is : List Item) → statistics_back (onto is []) ≡ statistics_of is
+statistics_onto : (is : List Item) → statistics_back (onto is []) ≡ statistics_of is
 statistics_onto is =
     let h = onto is [] in
     same_statistics (statistics_back h) (statistics_of is)
@@ -55,3 +58,11 @@ statistics_onto is =
     (omega (arith, stores_back h, sum_onto stores_in is []))
     (omega (arith, branches_back h, sum_onto branches_in is []))
     (omega (arith, calls_back h, sum_onto calls_in is []))
+
+-- what was counted of a run from nothing on
+pub statistics_whole : (trace : Trace) (n : ℕ) (s : State) (sums : Statistics) → n < 2 ^ 62
+    → (length (onto (items_of trace n s) []) < 2 ^ 62 → sums ≡ statistics_back (onto (items_of trace n s) [])) → sums ≡ statistics_of (items_of trace n s)
+statistics_whole trace n s sums h f =
+    let is : List Item = items_of trace n s in
+    let short : length (onto is []) < 2 ^ 62 = omega (arith, h, length_onto is [], items_count trace n s) in
+    f short ∙ statistics_onto is

@@ -44,13 +44,19 @@ shelf_within tells files calm faults a b was name trace j n s e t h =
     let d : text_of (items_of trace j s) ++ text_of f.0 ≡ text_of (items_of trace n s) = sym (ap text_of f.1 ∙ text_append (items_of trace j s) f.0) in
     subst Q d (shelf_front_more tells files calm faults a b [] name (text_of (items_of trace j s)) (text_of f.0) (subst Q (text_onto (items_of trace j s) []) (subst R e t)))
 
+-- output that was taken of the first items is a front of that of all
+pub sink_front_of : {P : Type 0} (tells : P → Type 0) (contents : P → List ℕ) (a b : P) (part more whole : List Item) → whole ≡ part ++ more
+    → SinkGetsFront tells contents a b (outputs_back (onto part [])) → SinkGetsFront tells contents a b (outputs_of whole)
+sink_front_of tells contents a b part more whole e h =
+    let Q : List ℕ → Type 0 = λ x. SinkGetsFront tells contents a b x in
+    let d : outputs_of part ++ outputs_of more ≡ outputs_of whole = sym (ap outputs_of e ∙ outputs_append part more) in
+    subst Q d (sink_front_more tells contents a b (outputs_of part) (outputs_of more) (subst Q (outputs_onto part []) h))
+
 pub sink_within : {P : Type 0} (tells : P → Type 0) (contents : P → List ℕ) (a b : P) (trace : Trace) (j n : ℕ) (s : State)
     → SinkGetsFront tells contents a b (outputs_back (onto (items_of trace j s) [])) → j ≤ n → SinkGetsFront tells contents a b (outputs_of (items_of trace n s))
 sink_within tells contents a b trace j n s t h =
-    let Q : List ℕ → Type 0 = λ x. SinkGetsFront tells contents a b x in
     let f : (more : List Item) × (items_of trace n s ≡ items_of trace j s ++ more) = items_front trace j n s h in
-    let d : outputs_of (items_of trace j s) ++ outputs_of f.0 ≡ outputs_of (items_of trace n s) = sym (ap outputs_of f.1 ∙ outputs_append (items_of trace j s) f.0) in
-    subst Q d (sink_front_more tells contents a b (outputs_of (items_of trace j s)) (outputs_of f.0) (subst Q (outputs_onto (items_of trace j s) []) t))
+    sink_front_of tells contents a b (items_of trace j s) f.0 (items_of trace n s) f.1 t
 
 -- what was pending after the run is written
 pub shelf_finish : {H : Type 0} (tells : H → Type 0) (files : H → Files) (calm : H → Type 0) (faults : H → ℕ) (a b c : H) (name other : Option (List ℕ)) (p q text : List ℕ) → other ≡ name

@@ -19,6 +19,6 @@ ShelfRuns tells files calm faults a b name text (Ok w) = ShelfHolds tells files 
 ShelfRuns tells files calm faults a b name text (Err f) = ShelfGetsFront tells files calm faults a b [] name text
 
 -- from one value to another a stream took the output of a run
-abbrev pub SinkRuns : {P : Type 0} (tells : P → Type 0) (contents : P → List ℕ) (faults : P → ℕ) → P → P → List ℕ → Result Watched WatchFault → Type 0
-SinkRuns tells contents faults a b bytes (Ok w) = SinkGets tells contents faults a b bytes
+abbrev pub SinkRuns : {T P : Type 0} (tells : P → Type 0) (contents : P → List ℕ) (faults : P → ℕ) → P → P → List ℕ → Result T WatchFault → Type 0
+SinkRuns tells contents faults a b bytes (Ok x) = SinkGets tells contents faults a b bytes
 SinkRuns tells contents faults a b bytes (Err f) = SinkGetsFront tells contents a b bytes

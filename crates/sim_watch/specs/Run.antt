@@ -37,15 +37,15 @@ RunFiles old name text new (Ok w) = FilesHold old name text new
 RunFiles old name text new (Err f) = FilesHoldFront old name text new
 
 -- the stream gets all output, after a fault a front of it
-abbrev pub RunOutput : List ℕ → List ℕ → List ℕ → Result Watched WatchFault → Type 0
-RunOutput old bytes new (Ok w) = new ≡ old ++ bytes
+abbrev pub RunOutput : {T : Type 0} → List ℕ → List ℕ → List ℕ → Result T WatchFault → Type 0
+RunOutput old bytes new (Ok x) = new ≡ old ++ bytes
 RunOutput old bytes new (Err f) = BeginsWith new old × BeginsWith (old ++ bytes) new
 
 -- ---- what is answered
 
 -- the counts of faults, of the shelf and of the stream: a fault says which of them rose, and no other did
-abbrev pub RunCounts : Type 0 → Option (List ℕ) → ℕ × ℕ → ℕ × ℕ → Result Watched WatchFault → Type 0
-RunCounts calm name before now (Ok w) = now ≡ before
+abbrev pub RunCounts : {T : Type 0} → Type 0 → Option (List ℕ) → ℕ × ℕ → ℕ × ℕ → Result T WatchFault → Type 0
+RunCounts calm name before now (Ok x) = now ≡ before
 RunCounts calm name before now (Err f) = Comes calm name before now f
 
 -- how a run of up to n steps ended, the state after it and what was counted

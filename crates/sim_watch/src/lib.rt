@@ -1,10 +1,12 @@
 //! Runs whose commit text goes to a file and whose output goes to a stream.
 #![tactic(auto)]
 
+mod recording;
 mod run;
 #[cfg(test)]
 mod tests;
 mod watch;
 
+pub use recording::{Recorded, watched_record};
 pub use run::{Watched, watched_run};
 pub use watch::{TextWatch, WatchFault};

@@ -1,11 +1,11 @@
 use Rattle.std.specs.Option.{option_copied}
-use Rattle.std.proofs.Common.{◌-◌, ◌∙◌, [], refl, arith}
+use Rattle.std.proofs.Common.{◌-◌, [], refl, arith}
 use Rattle.sim_safe.specs.State.{state_of}
 use Rattle.sim_safe.specs.Commit.{text_of, outputs_of, text_back, outputs_back, onto}
-use Rattle.sim_safe.specs.Run.{items_of, items_count}
+use Rattle.sim_safe.specs.Run.{items_of}
 use Rattle.sim_watch.specs.Watch.{shelf_none, sink_none}
 use Rattle.sim_watch.proofs.Texts.{shelf_front, sink_front, shelf_comes}
-use Rattle.sim_watch.proofs.Totals.{length_onto, statistics_onto}
+use Rattle.sim_watch.proofs.Totals.{statistics_whole}
 use Rattle.sim_watch.proofs.Whole.{shelf_whole, shelf_within, shelf_finish, shelf_finish_front, sink_whole, sink_within, kept_comes}
 use Rattle.sim_watch.proofs.run.observe.Goals as goal
 
@@ -84,7 +84,7 @@ returns-in-Ok-finish-clause-ends g c =
     record {
       end = c.in-Ok.ensures.state.1;
       state = c.in-Ok.ensures.state.0;
-      statistics = t.statistics c.requires.statistics (omega (arith, length_onto (items_of c.args.trace.now c.args.n (state_of c.args.arch.now)) [], items_count c.args.trace.now c.args.n (state_of c.args.arch.now), c.requires.count)) ∙ statistics_onto (items_of c.args.trace.now c.args.n (state_of c.args.arch.now));
+      statistics = statistics_whole c.args.trace.now c.args.n (state_of c.args.arch.now) c.run.new.o.statistics (omega (arith, c.requires.count)) (t.statistics c.requires.statistics);
     }
 
 pub returns-in-Err-clause-shelf_same : goal.returns-in-Err-clause-shelf_same
