@@ -1,7 +1,6 @@
 -- Lemmas on endings, by whether they tell of a fault.
-use Rattle.std.proofs.Common.{◌≡◌, ℕ, Bool, true, false, List, [], ◌∷◌, ◌++◌, take, length, refl, sym, ap, ◌∙◌, subst, append-nil}
+use Rattle.std.proofs.Common.{◌≡◌, ℕ, Bool, true, false, List, refl}
 use Rattle.std.proofs.Math.Seq.{take-length, take-append_seam}
-use Rattle.ss_base.specs.Outside.{BeginsWith}
 use Rattle.pisa_step.specs.declared.cause.Cause.{Cause}
 use Rattle.pisa_step.specs.declared.cause.Cause.TheVariants as cause
 use Rattle.sim_safe.specs.declared.observer.RunEnd.{RunEnd}

@@ -1,5 +1,5 @@
 -- Lemmas on files that are loaded and judged in order.
-use Rattle.std.proofs.Common.{◌≡◌, ◌≢◌, ℕ, ◌≤◌, ◌<◌, Bool, List, [], ◌∷◌, length, Option, Some, None, Result, Ok, Err, refl, sym, ap, ◌∙◌, subst, ◌⊎◌, ⊎_elim, inl, inr}
+use Rattle.std.proofs.Common.{◌≡◌, ℕ, Bool, List, [], ◌∷◌, Option, Some, None, Result, Ok, Err, refl, sym, subst, ⊎_elim, inl, inr}
 use Rattle.std.specs.Prelude.{map, string_bytes, option_copied}
 use Rattle.ecoff_load.specs.declared.image.Image.{Image}
 use Rattle.event_trace.specs.declared.fault.TraceFault.{TraceFault}
@@ -8,13 +8,13 @@ use Rattle.event_trace.specs.declared.trace.Trace.{Trace}
 use Rattle.event_trace.specs.Reading.{checked}
 use Rattle.sim_safe.specs.State.{start_state}
 use Rattle.sim_opts.specs.declared.request.SimSafe.{SimSafe}
-use Rattle.sim_main.specs.declared.ending.Ending.{Ending}
+use Rattle.sim_opts.specs.Borrowed.{sim_safe_in}
 use Rattle.sim_main.specs.declared.loading.Prepared.{Prepared}
 use Rattle.sim_main.specs.declared.loading.Prepared.TheVariants as prepared
 use Rattle.sim_main.specs.declared.loading.Program.{Program}
 use Rattle.sim_main.specs.declared.safe.RunFiles.{RunFiles}
 use Rattle.sim_main.specs.Outcome.{Outcome, Loads, LoadsNamed, JudgesObject, JudgesOrder, JudgesTrace, JudgesGiven, object_limit, trace_limit, ran, refused}
-use Rattle.sim_main.specs.Steps.{LoadsAll, JudgesProgram, IsGiven, PreparedBy, run_of}
+use Rattle.sim_main.specs.Steps.{LoadsAll, JudgesProgram, IsGiven, ComesTo, run_of}
 
 -- ---- what comes next may be said otherwise
 
@@ -31,6 +31,10 @@ named_map limit (Some name) loaded o N M f x =
 
 pub object_map : (bytes : List ℕ) (o : Outcome) (N M : Image → Type 0) → ((image : Image) → N image → M image) → JudgesObject bytes o N → JudgesObject bytes o M
 object_map bytes o N M f x = ⊎_elim (λ h. inl h) (λ h. inr (h.0, h.1, f h.0 h.2)) x
+
+-- an object that is refused is so whatever comes next
+pub object_never : (bytes : List ℕ) (o : Outcome) (M : Image → Type 0) → JudgesObject bytes o (λ _. ⊥) → JudgesObject bytes o M
+object_never bytes o M x = object_map bytes o (λ _. ⊥) M (λ image h. absurd h) x
 
 order_map : (trace : Trace) (big : Bool) (o : Outcome) (N M : Trace → Type 0) → ((t : Trace) → N t → M t) → JudgesOrder trace big o N → JudgesOrder trace big o M
 order_map trace big o N M f x = ⊎_elim (λ h. inl h) (λ h. inr (h.0, f trace h.1)) x
@@ -70,7 +74,7 @@ loaded_then object trace loaded f o Judged l j =
 
 -- what a request comes to, by what was loaded and judged for it
 pub prepared_by : (r : SimSafe) (loaded : List (List ℕ)) (f : RunFiles) (result : Prepared Program)
-    → LoadsAll r.object.now (option_copied r.trace) loaded (prepared.Ready f) → JudgesProgram f.object f.trace result → PreparedBy r loaded result
+    → LoadsAll r.object.now (option_copied r.trace) loaded (prepared.Ready f) → JudgesProgram f.object f.trace result → ComesTo (Some (sim_safe_in r)) (run_of r) loaded result
 prepared_by r loaded f (prepared.Ready p) l j =
     let o : Outcome = run_of r p in
     let Ends : Image → Trace → Type 0 = λ image given. o ≡ ran given r.max_inst (start_state image (map string_bytes r.args.now)) (option_copied r.commits) in

@@ -1,6 +1,10 @@
 pub mod Endings
 pub mod Loads
+pub mod Breaks
 pub mod Judged
+pub mod RecordLoads
+pub mod Replaying
+pub mod Recorded
 pub mod Runs
 pub mod Leaves
 pub mod Listed

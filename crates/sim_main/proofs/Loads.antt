@@ -1,15 +1,14 @@
 -- Lemmas on files that are loaded.
-use Rattle.std.proofs.Common.{◌≡◌, ℕ, ◌≤◌, ◌<◌, ◌+◌, List, [], ◌∷◌, length, Option, Some, None, refl, sym, ap, ◌∙◌, subst, arith, inl, inr}
-use Rattle.std.specs.Prelude.{IsSome, IfSome, replicate, Contains}
+use Rattle.std.proofs.Common.{◌≡◌, ℕ, ◌≤◌, ◌<◌, ◌+◌, List, [], ◌∷◌, length, Option, Some, None, refl, sym, ap, subst, arith, inl, inr}
+use Rattle.std.specs.Prelude.{replicate}
 use Rattle.std.specs.List.{cons_option}
 use Rattle.std.proofs.lemmas.List.{length-replicate}
 use Rattle.sim_main.specs.declared.ending.Ending.{Ending}
 use Rattle.sim_main.specs.declared.ending.Ending.TheVariants as ending
 use Rattle.sim_main.specs.declared.loading.Prepared.TheVariants as prepared
-use Rattle.sim_main.specs.declared.safe.RunFiles.{RunFiles}
-use Rattle.sim_main.specs.Outcome.{Outcome, Loads, LoadsNamed, object_limit, trace_limit, refused}
+use Rattle.sim_main.specs.Outcome.{object_limit, trace_limit, refused}
 use Rattle.sim_main.specs.Answer.{NamesLong}
-use Rattle.sim_main.specs.Steps.{LoadsAll, LoadsSome, MayLoadNamed}
+use Rattle.sim_main.specs.Steps.{LoadsSome, MayLoadNamed}
 
 -- so many files that are empty
 empty_if : Option (List ℕ) → List (List ℕ)

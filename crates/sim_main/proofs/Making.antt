@@ -1,25 +1,18 @@
 -- Lemmas on commands that make an object or a listing.
-use Rattle.std.proofs.Common.{◌≡◌, ℕ, ◌≤◌, ◌<◌, List, [], ◌∷◌, ◌++◌, length, Option, Some, None, Result, Ok, Err, true, false, refl, sym, ap, ◌∙◌, subst, ◌⊎◌, ⊎_elim, inl, inr, arith, append-nil}
-use Rattle.ss_base.specs.Outside.{Files, SameFiles}
+use Rattle.std.proofs.Common.{◌≡◌, ℕ, ◌≤◌, List, [], ◌∷◌, length, Some, Result, Ok, Err, refl, sym, ap, subst, ⊎_elim, inl, inr}
 use Rattle.ecoff_load.specs.declared.image.Image.{Image}
-use Rattle.ecoff_load.specs.Object.{IsObject}
 use Rattle.pisa_asm.specs.declared.fault.AsmFault.{AsmFault}
 use Rattle.pisa_asm.specs.declared.fault.AsmFault.TheVariants as asm_fault
-use Rattle.pisa_asm.specs.declared.fault.TextWhy.{TextWhy}
-use Rattle.pisa_asm.specs.Passes.{Answers as assembled, CanBeHeld, described}
-use Rattle.sim_opts.specs.Request.{Request, SimSafe, Record, Asm, Dis}
+use Rattle.pisa_asm.specs.Passes.{described}
+use Rattle.sim_opts.specs.Request.{Asm, Dis}
 use Rattle.sim_main.specs.declared.ending.Ending.{Ending}
 use Rattle.sim_main.specs.declared.ending.Ending.TheVariants as ending
 use Rattle.sim_main.specs.declared.loading.Prepared.{Prepared}
 use Rattle.sim_main.specs.declared.loading.Prepared.TheVariants as prepared
-use Rattle.sim_main.specs.Ending.{is_fault, by_ending}
-use Rattle.sim_main.specs.Outcome.{Outcome, HasOutcome, JudgesLayout, JudgesObject, JudgesSource, object_limit, source_limit, listing_made, object_made, refused}
-use Rattle.sim_main.specs.Answer.{Answers, OutcomeWith, WholeFile, FileFront, StreamFront, Gets, LeavesFiles, LeavesOutput, LeavesReport, EndsByBytes, NamesLong, loaded_from}
-use Rattle.sim_main.specs.Steps.{RunLeaves, StreamLeaves}
-use Rattle.sim_main.specs.Making.{JudgesFile, JudgesText, ComesTo, ComesToSome}
-use Rattle.sim_main.proofs.Endings.{by_cases, when_answered, when_given_up}
+use Rattle.sim_main.specs.Outcome.{Outcome, JudgesLayout, JudgesSource, object_limit, source_limit, listing_made, object_made, refused}
+use Rattle.sim_main.specs.Steps.{ComesTo, ComesToSome}
+use Rattle.sim_main.specs.Making.{JudgesFile, JudgesText}
 use Rattle.sim_main.proofs.Judged.{object_map}
-use Rattle.sim_main.proofs.Leaves.{whole_after, front_after}
 use Rattle.sim_main.proofs.Loads.{above, above_limit}
 
 -- ---- judgements
@@ -72,46 +65,3 @@ object_shelf_fault source object = record { loaded = [] ∷ []; one_each = refl;
 
 pub object_out_of_memory : (source object : List ℕ) → ComesToSome (Some (Asm source object)) (object_made object) prepared.OutOfMemory
 object_out_of_memory source object = record { loaded = [] ∷ []; one_each = refl; by = tt }
-
--- ---- what commands leave
-
-pub leaves_files : (request : Option Request) (o : Outcome) (e : Ending) (old mid new : Files) → HasOutcome request (loaded_from request old) o → SameFiles old mid
-    → by_ending e (e ≡ o.ending) (Unit {0}) → RunLeaves o mid new e → LeavesFiles request old new e
-leaves_files request o e old mid new h m k l =
-    by_cases e (Answers request (loaded_from request old) e (λ o. WholeFile o.file old new)) (SameFiles old new ⊎ OutcomeWith request (loaded_from request old) (λ o. FileFront o.file old new))
-    (λ a. record {
-      outcome = o;
-      has = h;
-      ending = when_answered e (e ≡ o.ending) (Unit {0}) a k;
-      holds = whole_after o.file old mid new m (when_answered e (WholeFile o.file mid new) (FileFront o.file mid new) a l);
-    })
-    (λ a. inr (record { outcome = o; has = h; holds = front_after o.file old mid new m (when_given_up e (WholeFile o.file mid new) (FileFront o.file mid new) a l) }))
-
-pub leaves_output : (request : Option Request) (files : Files) (o : Outcome) (e : Ending) (old new : List ℕ) → HasOutcome request (loaded_from request files) o
-    → by_ending e (e ≡ o.ending) (Unit {0}) → StreamLeaves o.output old new e → LeavesOutput request files old new e
-leaves_output request files o e old new h k l =
-    by_cases e (Answers request (loaded_from request files) e (λ o. new ≡ old ++ o.output)) ((new ≡ old) ⊎ OutcomeWith request (loaded_from request files) (λ o. StreamFront old o.output new))
-    (λ a. record {
-      outcome = o;
-      has = h;
-      ending = when_answered e (e ≡ o.ending) (Unit {0}) a k;
-      holds = when_answered e (new ≡ old ++ o.output) (StreamFront old o.output new) a l;
-    })
-    (λ a. inr (record { outcome = o; has = h; holds = when_given_up e (new ≡ old ++ o.output) (StreamFront old o.output new) a l }))
-
-pub leaves_report : (request : Option Request) (files : Files) (o : Outcome) (e : Ending) (old new : List ℕ) → HasOutcome request (loaded_from request files) o
-    → by_ending e (e ≡ o.ending) (Unit {0}) → StreamLeaves o.report old new e → LeavesReport request files old new e
-leaves_report request files o e old new h k l =
-    by_cases e (Answers request (loaded_from request files) e (λ o. new ≡ old ++ o.report)) ((new ≡ old) ⊎ OutcomeWith request (loaded_from request files) (λ o. StreamFront old o.report new))
-    (λ a. record {
-      outcome = o;
-      has = h;
-      ending = when_answered e (e ≡ o.ending) (Unit {0}) a k;
-      holds = when_answered e (new ≡ old ++ o.report) (StreamFront old o.report new) a l;
-    })
-    (λ a. inr (record { outcome = o; has = h; holds = when_given_up e (new ≡ old ++ o.report) (StreamFront old o.report new) a l }))
-
--- the files and the output where the line of a refusal failed
-pub refusal_last : {P : Type 0} (tells : P → Type 0) (contents : P → List ℕ) (prog : P) (request : Option Request) (e : Ending) (old new : Files)
-    → HasOutcome request (loaded_from request old) (refused e) → SameFiles old new → OutcomeWith request (loaded_from request old) (λ o. WholeFile o.file old new × Gets tells contents prog prog o.output)
-refusal_last tells contents prog request e old new h m = record { outcome = refused e; has = h; holds = (m, λ _. sym (append-nil (contents prog))) }

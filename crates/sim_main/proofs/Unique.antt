@@ -1,22 +1,23 @@
 -- Of the same words and bytes there is at most one outcome.
-use Rattle.std.proofs.Common.{◌≡◌, ◌≢◌, ℕ, ◌≤◌, ◌<◌, Bool, List, [], ◌∷◌, length, Option, Some, None, Result, Ok, Err, refl, sym, ap, ◌∙◌, subst, ◌⊎◌, ⊎_elim, inl, inr, arith}
+use Rattle.std.proofs.Common.{◌≡◌, ℕ, Bool, List, [], ◌∷◌, Option, Some, None, Result, Ok, Err, sym, ap, ◌∙◌, subst, inl, inr, arith}
 use Rattle.ecoff_load.specs.declared.fault.Refusal.{Refusal}
 use Rattle.ecoff_load.specs.declared.image.Image.{Image}
 use Rattle.ecoff_load.specs.Object.{IsObject}
 use Rattle.ecoff_load.specs.Checks.{refusal}
-use Rattle.ecoff_load.proofs.Exact.{ReadAs, read_as, is_only}
+use Rattle.ecoff_load.proofs.Exact.{read_as, is_only}
 use Rattle.event_trace.specs.declared.fault.TraceFault.{TraceFault}
 use Rattle.event_trace.specs.declared.fault.TraceFault.TheVariants as faults
 use Rattle.event_trace.specs.declared.trace.Trace.{Trace}
 use Rattle.event_trace.specs.Grammar.{absent_trace}
 use Rattle.event_trace.specs.Reading.{checked}
+use Rattle.event_trace.specs.World.{File}
 use Rattle.pisa_asm.specs.declared.fault.AsmFault.{AsmFault}
 use Rattle.pisa_asm.specs.declared.fault.AsmFault.TheVariants as asm_fault
 use Rattle.pisa_asm.specs.Passes.{described}
 use Rattle.sim_safe.specs.State.{start_state}
 use Rattle.sim_opts.specs.Request.{Request, SimSafe, Record, Asm, Dis}
 use Rattle.sim_main.specs.declared.ending.Ending.TheVariants as ending
-use Rattle.sim_main.specs.Outcome.{Outcome, HasOutcome, Loads, LoadsNamed, JudgesObject, JudgesOrder, JudgesTrace, JudgesGiven, JudgesLayout, JudgesSource, object_limit, trace_limit, source_limit, ran, object_made, listing_made, refused}
+use Rattle.sim_main.specs.Outcome.{Outcome, HasOutcome, Loads, LoadsNamed, LoadsEach, JudgesObject, JudgesOrder, JudgesTrace, JudgesGiven, JudgesLayout, JudgesSource, object_limit, trace_limit, source_limit, input_limit, world_of, ran, recorded, object_made, listing_made, refused}
 
 one_refusal : (found : Option Refusal) (a b : Refusal) → found ≡ Some a → found ≡ Some b → a ≡ b
 one_refusal None a b h k = absurd cc
@@ -44,6 +45,15 @@ named_one : (limit : ℕ) (name : Option (List ℕ)) (loaded : List (List ℕ)) 
 named_one limit None loaded o p N M f x y = f None loaded x y
 named_one limit (Some name) loaded o p N M f x y =
     loads_one limit name loaded o p (λ bytes others. N (Some bytes) others) (λ bytes others. M (Some bytes) others) (λ bytes others. f (Some bytes) others) x y
+
+each_one : (limit : ℕ) (names loaded : List (List ℕ)) (o p : Outcome) (N M : List File → Type 0)
+    → ((files : List File) → N files → M files → o ≡ p) → LoadsEach limit names loaded o N → LoadsEach limit names loaded p M → o ≡ p
+each_one limit [] loaded o p N M f x y = f [] x y
+each_one limit (name ∷ names) loaded o p N M f x y =
+    let first : List ℕ → List File → List File = λ bytes files. record { name = name; bytes = bytes } ∷ files in
+    loads_one limit name loaded o p (λ bytes others. LoadsEach limit names others o (λ files. N (first bytes files))) (λ bytes others. LoadsEach limit names others p (λ files. M (first bytes files)))
+    (λ bytes others. each_one limit names others o p (λ files. N (first bytes files)) (λ files. M (first bytes files)) (λ files. f (first bytes files)))
+    x y
 
 object_one : (bytes : List ℕ) (o p : Outcome) (N M : Image → Type 0) → ((image : Image) → N image → M image → o ≡ p) → JudgesObject bytes o N → JudgesObject bytes p M → o ≡ p
 object_one bytes o p N M f (inl a) (inl b) =
@@ -90,7 +100,16 @@ one_outcome (Some (SimSafe commits trace max_inst object args)) loaded o p x y =
     (λ calls _. object_one program o p (λ image. JudgesGiven calls image.text.big o (λ given. Ends o image given)) (λ image. JudgesGiven calls image.text.big p (λ given. Ends p image given))
     (λ image. given_one calls image.text.big o p (λ given. Ends o image given) (λ given. Ends p image given) (λ t h k. h ∙ sym k))))
     x y
-one_outcome (Some (Record out input files max_inst object args)) loaded o p x y = x ∙ sym y
+one_outcome (Some (Record out input files max_inst object args)) loaded o p x y =
+    let Ends : Outcome → Option (List ℕ) → List File → Image → Type 0 = λ o given opened image. o ≡ recorded (world_of given opened image) image.text.big max_inst (start_state image args) out in
+    let Reads : Outcome → List ℕ → Option (List ℕ) → List File → Type 0 = λ o program given opened. JudgesObject program o (λ image. Ends o given opened image) in
+    let Opens : Outcome → List ℕ → Option (List ℕ) → List (List ℕ) → Type 0 = λ o program given others. LoadsEach input_limit files others o (λ opened. Reads o program given opened) in
+    let All : Outcome → List ℕ → List (List ℕ) → Type 0 = λ o program others. LoadsNamed input_limit input others o (λ given rest. Opens o program given rest) in
+    loads_one object_limit object loaded o p (All o) (All p)
+    (λ program others. named_one input_limit input others o p (λ given rest. Opens o program given rest) (λ given rest. Opens p program given rest)
+    (λ given rest. each_one input_limit files rest o p (λ opened. Reads o program given opened) (λ opened. Reads p program given opened)
+    (λ opened. object_one program o p (λ image. Ends o given opened image) (λ image. Ends p given opened image) (λ image h k. h ∙ sym k))))
+    x y
 one_outcome (Some (Asm source object)) loaded o p x y =
     let Makes : Outcome → Image → Type 0 = λ o image. o ≡ object_made object image in
     loads_one source_limit source loaded o p (λ bytes _. JudgesSource (described bytes) o (Makes o)) (λ bytes _. JudgesSource (described bytes) p (Makes p))

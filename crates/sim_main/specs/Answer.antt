@@ -1,11 +1,12 @@
 -- What the top call answers and leaves.
-use Rattle.std.specs.Prelude.{◌≡◌, ◌≢◌, ◌⊎◌, ◌<◌, ◌≤◌, ◌++◌, ℕ, List, [], ◌∷◌, length, map, Contains, IsSome, Option, Some, None}
+use Rattle.std.specs.Prelude.{◌≡◌, ◌⊎◌, ◌<◌, ◌≤◌, ◌++◌, ℕ, List, [], ◌∷◌, length, map, Contains, IsSome, Option, Some, None}
 use Rattle.ss_base.specs.Outside.{Files, bytes_at, BeginsWith, SameFiles, OthersStay, Rose}
 use Rattle.sim_opts.specs.Request.{Request}
 use Rattle.sim_main.specs.declared.ending.Ending.{Ending}
 use Rattle.sim_main.specs.declared.ending.Ending.TheVariants as ending
 use Rattle.sim_main.specs.Ending.{by_ending}
 use Rattle.sim_main.specs.Outcome.{Output, Outcome, HasOutcome, names_of}
+use Rattle.sim_main.specs.Replay.{Replays}
 
 -- ---- contents
 
@@ -51,6 +52,10 @@ Gets tells contents old new bytes = tells old → contents new ≡ contents old 
 abbrev pub LeavesFiles : Option Request → Files → Files → Ending → Type 0
 LeavesFiles request old new e = Leaves request (loaded_from request old) e (λ o. WholeFile o.file old new) (SameFiles old new) (λ o. FileFront o.file old new)
 
+-- the file that was written is the one of an outcome, and where that was recorded, it is replayed
+abbrev pub WritesReplay : Option Request → Files → Files → Ending → Type 0
+WritesReplay request old new e = Answers request (loaded_from request old) e (λ o. WholeFile o.file old new × Replays request (loaded_from request old) o)
+
 abbrev pub LeavesOutput : Option Request → Files → List ℕ → List ℕ → Ending → Type 0
 LeavesOutput request files old new e = Leaves request (loaded_from request files) e (λ o. new ≡ old ++ o.output) (new ≡ old) (λ o. StreamFront old o.output new)
 
@@ -59,11 +64,13 @@ LeavesReport request files old new e = Leaves request (loaded_from request files
 
 -- ---- what is known over files that aren't told, too
 
--- an answer is the ending of an outcome of some bytes for each file, which holds
+-- an answer is the ending of an outcome of some bytes for each file, which holds; a recording among them
+-- is replayed
 pub record EndsByBytes (request : Option Request) (e : Ending) (Holds : Outcome → Type 0) : Type 0 where
   pub loaded : List (List ℕ)
   pub one_each : length loaded ≡ length (names_of request)
   pub answers : Answers request loaded e Holds
+  pub replays : Replays request loaded answers.outcome
 
 -- a count of faults rose
 abbrev pub Risen : ℕ → ℕ → Type 0

@@ -1,14 +1,13 @@
 -- What the parts of `asm` and `dis` say of each other.
-use Rattle.std.specs.Prelude.{◌≡◌, ◌++◌, ℕ, List, length, Option, Result, Ok, Err}
+use Rattle.std.specs.Prelude.{◌≡◌, ◌++◌, ℕ, List, Option, Result, Ok, Err}
 use Rattle.ss_base.specs.Outside.{Files}
 use Rattle.ss_base.specs.declared.fault.PutFault.{PutFault}
 use Rattle.ecoff_load.specs.declared.image.Image.{Image}
 use Rattle.ecoff_load.specs.Object.{IsObject}
 use Rattle.pisa_asm.specs.declared.fault.AsmFault.{AsmFault}
 use Rattle.pisa_asm.specs.Passes.{CanBeHeld}
-use Rattle.sim_opts.specs.Request.{Request}
 use Rattle.sim_main.specs.declared.loading.Prepared.{Prepared}
-use Rattle.sim_main.specs.Outcome.{Output, Outcome, HasOutcome, JudgesObject, JudgesSource, names_of, refused}
+use Rattle.sim_main.specs.Outcome.{Output, JudgesObject, JudgesSource, refused}
 use Rattle.sim_main.specs.Answer.{WholeFile, FileFront, StreamFront}
 use Rattle.sim_main.specs.Steps.{Prepares}
 
@@ -21,16 +20,6 @@ JudgesFile bytes result = Prepares result (λ image. IsObject bytes image) (λ e
 -- a source that describes this, or a fault, is judged
 abbrev pub JudgesText : Result Image AsmFault → Prepared Image → Type 0
 JudgesText meaning result = Prepares result (λ image. (meaning ≡ Ok image) × CanBeHeld image) (λ e. JudgesSource meaning (refused e) (λ _. ⊥))
-
--- what is ready comes to an outcome of loaded files, or what is refused does
-abbrev pub ComesTo : Option Request → (Image → Outcome) → List (List ℕ) → Prepared Image → Type 0
-ComesTo request of_image loaded result = Prepares result (λ image. HasOutcome request loaded (of_image image)) (λ e. HasOutcome request loaded (refused e))
-
--- so it is of some bytes for each file
-pub record ComesToSome (request : Option Request) (of_image : Image → Outcome) (result : Prepared Image) : Type 0 where
-  pub loaded : List (List ℕ)
-  pub one_each : length loaded ≡ length (names_of request)
-  pub by : ComesTo request of_image loaded result
 
 -- ---- what is written
 

@@ -1,8 +1,9 @@
 -- What comes of commands where nothing fails: how they end, and what they write.
-use Rattle.std.specs.Prelude.{◌≡◌, ◌≢◌, ◌⊎◌, ◌-◌, ◌^◌, ◌<◌, ◌≤◌, ℕ, Bool, List, [], ◌∷◌, length, map, min, Option, Some, None, option_map, Result, Ok, Err, nat_eq, if◌then◌else◌}
+use Rattle.std.specs.Prelude.{◌≡◌, ◌≢◌, ◌⊎◌, ◌+◌, ◌-◌, ◌*◌, ◌/◌, ◌^◌, ◌<◌, ◌≤◌, ℕ, Bool, List, [], ◌∷◌, length, min, max, Option, Some, None, option_map, unwrap_or, Result, Ok, Err, nat_eq, if◌then◌else◌}
 use Rattle.std.specs.List.{cons_option}
 use Rattle.ecoff_load.specs.declared.fault.Refusal.{Refusal}
 use Rattle.ecoff_load.specs.declared.image.Image.{Image}
+use Rattle.ecoff_load.specs.declared.image.Part.{Part}
 use Rattle.ecoff_load.specs.Object.{IsObject}
 use Rattle.ecoff_load.specs.Checks.{refusal}
 use Rattle.ecoff_load.specs.Layout.{object_bytes}
@@ -10,15 +11,20 @@ use Rattle.event_trace.specs.declared.fault.TraceFault.{TraceFault}
 use Rattle.event_trace.specs.declared.fault.TraceFault.TheVariants as faults
 use Rattle.event_trace.specs.declared.fault.TraceWhy.TheVariants as why
 use Rattle.event_trace.specs.declared.trace.Trace.{Trace}
-use Rattle.event_trace.specs.Grammar.{absent_trace}
+use Rattle.event_trace.specs.Grammar.{absent_trace, trace_bytes}
 use Rattle.event_trace.specs.Reading.{checked}
+use Rattle.event_trace.specs.Recorder.{empty_trace}
+use Rattle.event_trace.specs.World.{File, WorldState, start_world}
 use Rattle.pisa_asm.specs.declared.fault.AsmFault.{AsmFault}
 use Rattle.pisa_asm.specs.declared.fault.AsmFault.TheVariants as asm_fault
 use Rattle.pisa_asm.specs.declared.fault.TextWhy.TheVariants as text_why
 use Rattle.pisa_asm.specs.Passes.{described, CanBeHeld}
 use Rattle.sim_safe.specs.State.{State, start_state}
 use Rattle.sim_safe.specs.Commit.{text_of, outputs_of}
+use Rattle.sim_safe.specs.Recording.{recording, serve}
 use Rattle.sim_safe.specs.Run.{items_of, after, end_of}
+use Rattle.sim_safe.specs.declared.observer.RunEnd.{RunEnd}
+use Rattle.sim_safe.specs.declared.observer.RunEnd.TheVariants as ends
 use Rattle.sim_watch.specs.Statistics.{statistics_of}
 use Rattle.sim_opts.specs.Request.{Request, SimSafe, Record, Asm, Dis}
 use Rattle.sim_main.specs.declared.ending.Ending.{Ending}
@@ -59,24 +65,64 @@ made file output = record { ending = ending.Made; file = file; output = output; 
 abbrev pub step_limit : State → ℕ → ℕ
 step_limit s n = min n (10 ^ 15 - s.icnt)
 
-unfoldable pub run_ending : Trace → ℕ → State → Ending
-run_ending trace n s = ending_of (end_of trace n s) (after trace n s).pc (after trace n s).icnt
+-- the ending of up to n steps that end so
+unfoldable pub run_ending : Trace → RunEnd → ℕ → State → Ending
+run_ending trace end n s = ending_of end (after trace n s).pc (after trace n s).icnt
 
 -- the statistics, and how the run ended
-unfoldable pub run_report : Trace → ℕ → State → List ℕ
-run_report trace n s = statistics_text (statistics_of (items_of trace n s)) (end_of trace n s) (after trace n s).pc (after trace n s).icnt
+unfoldable pub run_report : Trace → RunEnd → ℕ → State → List ℕ
+run_report trace end n s = statistics_text (statistics_of (items_of trace n s)) end (after trace n s).pc (after trace n s).icnt
 
--- up to n steps from a state over a trace, with the commit text in a file that may be named
-abbrev pub ran_for : Trace → ℕ → State → Option (List ℕ) → Outcome
-ran_for trace n s commits = record {
-  ending = run_ending trace n s;
-  file = option_map (λ name. record { name = name; text = text_of (items_of trace n s) }) commits;
+-- up to n steps from a state over a trace, which end so, and the file that is written
+abbrev pub ran_to : Trace → RunEnd → ℕ → State → Option Output → Outcome
+ran_to trace end n s file = record {
+  ending = run_ending trace end n s;
+  file = file;
   output = outputs_of (items_of trace n s);
-  report = run_report trace n s;
+  report = run_report trace end n s;
 }
+
+-- the commit text of up to n steps, in a file that may be named
+abbrev pub commit_file : Trace → ℕ → State → Option (List ℕ) → Option Output
+commit_file trace n s commits = option_map (λ name. record { name = name; text = text_of (items_of trace n s) }) commits
+
+abbrev pub ran_for : Trace → ℕ → State → Option (List ℕ) → Outcome
+ran_for trace n s commits = ran_to trace (end_of trace n s) n s (commit_file trace n s commits)
 
 abbrev pub ran : Trace → ℕ → State → Option (List ℕ) → Outcome
 ran trace n s commits = ran_for trace (step_limit s n) s commits
+
+-- ---- runs that are recorded
+
+-- a run whose trace is full ends as at its budget
+abbrev pub recorded_end : Trace × Bool → ℕ → State → RunEnd
+recorded_end made n s = if made.1 then ends.Limit else end_of made.0 n s
+
+-- up to n steps whose calls made a trace, which is written to a file: they are the run over that trace
+abbrev pub recorded_for : Trace × Bool → ℕ → State → List ℕ → Outcome
+recorded_for made n s out = ran_to made.0 (recorded_end made n s) n s (Some (record { name = out; text = trace_bytes made.0 }))
+
+-- the trace that a world makes of up to n steps of a program of a byte order
+abbrev pub trace_made : WorldState → Bool → ℕ → State → Trace × Bool
+trace_made world big n s = recording serve n world (empty_trace big) s
+
+abbrev pub recorded : WorldState → Bool → ℕ → State → List ℕ → Outcome
+recorded world big n s out = recorded_for (trace_made world big (step_limit s n) s) (step_limit s n) s out
+
+-- the greatest end of parts
+abbrev pub greatest_end : List Part → ℕ
+greatest_end [] = 0
+greatest_end (p ∷ ps) = max (p.addr + p.size) (greatest_end ps)
+
+-- where the break of a program stands at its start: behind the last byte of its parts, at the next
+-- multiple of 8; a program without parts has it at 0x10000000
+abbrev pub start_break : List Part → ℕ
+start_break [] = 0x10000000
+start_break (p ∷ ps) = (greatest_end (p ∷ ps) + 7) / 8 * 8
+
+-- the world of a program: its input, which is empty where none is named, and the files that it can open
+abbrev pub world_of : Option (List ℕ) → List File → Image → WorldState
+world_of input files image = start_world (unwrap_or input []) files (start_break image.parts)
 
 -- ---- files, in the order in which they are judged
 
@@ -89,6 +135,12 @@ Loads limit name (bytes ∷ others) o Next = ((limit < length bytes) × (o ≡ r
 abbrev pub LoadsNamed : ℕ → Option (List ℕ) → List (List ℕ) → Outcome → (Option (List ℕ) → List (List ℕ) → Type 0) → Type 0
 LoadsNamed limit None loaded o Next = Next None loaded
 LoadsNamed limit (Some name) loaded o Next = Loads limit name loaded o (λ bytes others. Next (Some bytes) others)
+
+-- the same of files one after the other, of which each has its name in the world
+abbrev pub LoadsEach : ℕ → List (List ℕ) → List (List ℕ) → Outcome → (List File → Type 0) → Type 0
+LoadsEach limit [] loaded o Next = Next []
+LoadsEach limit (name ∷ names) loaded o Next =
+    Loads limit name loaded o (λ bytes others. LoadsEach limit names others o (λ files. Next (record { name = name; bytes = bytes } ∷ files)))
 
 -- an object is refused where a check fails, and else is that of an image
 abbrev pub JudgesObject : List ℕ → Outcome → (Image → Type 0) → Type 0
@@ -137,6 +189,10 @@ trace_limit = 67108864
 abbrev pub source_limit : ℕ
 source_limit = 4194304
 
+-- of the input of a program, and of each file that it can open
+abbrev pub input_limit : ℕ
+input_limit = 16777216
+
 -- sim-safe: the object is loaded and then the trace, if one is named; then the object is judged and
 -- then the trace; then the program runs from its start
 abbrev pub SimSafeOutcome : (commits trace : Option (List ℕ)) (max_inst : ℕ) (object : List ℕ) (args : List (List ℕ)) → List (List ℕ) → Outcome → Type 0
@@ -146,6 +202,23 @@ SimSafeOutcome commits trace max_inst object args loaded o =
     JudgesObject program o (λ image.
     JudgesGiven calls image.text.big o (λ given.
     o ≡ ran given max_inst (start_state image args) commits))))
+
+-- record: the object is loaded, then the input, if one is named, and then each file that can be opened;
+-- then the object is judged
+abbrev pub JudgesRecording : (input : Option (List ℕ)) (files : List (List ℕ)) (object : List ℕ) → List (List ℕ) → Outcome → (Image → WorldState → Type 0) → Type 0
+JudgesRecording input files object loaded o Next =
+    Loads object_limit object loaded o (λ program others.
+    LoadsNamed input_limit input others o (λ given others.
+    LoadsEach input_limit files others o (λ opened.
+    JudgesObject program o (λ image.
+    Next image (world_of given opened image)))))
+
+-- then the program runs from its start, and the world of these files answers its calls; then the trace
+-- is written
+abbrev pub RecordOutcome : (out : List ℕ) (input : Option (List ℕ)) (files : List (List ℕ)) (max_inst : ℕ) (object : List ℕ) (args : List (List ℕ)) → List (List ℕ) → Outcome → Type 0
+RecordOutcome out input files max_inst object args loaded o =
+    JudgesRecording input files object loaded o (λ image world.
+    o ≡ recorded world image.text.big max_inst (start_state image args) out)
 
 -- asm: the source is loaded and judged; then the object of its image is written
 abbrev pub object_made : List ℕ → Image → Outcome
@@ -167,11 +240,11 @@ DisOutcome object loaded o =
     JudgesObject program o (λ image.
     o ≡ listing_made image))
 
--- a command that is not built is refused as words without a shape are
+-- words without a shape ask for nothing that is built
 abbrev pub IsUnbuilt : Option Request → Type 0
 IsUnbuilt None = Unit {0}
 IsUnbuilt (Some (SimSafe commits trace max_inst object args)) = ⊥
-IsUnbuilt (Some (Record out input files max_inst object args)) = Unit {0}
+IsUnbuilt (Some (Record out input files max_inst object args)) = ⊥
 IsUnbuilt (Some (Asm source object)) = ⊥
 IsUnbuilt (Some (Dis object)) = ⊥
 
@@ -182,7 +255,7 @@ not_built = refused (ending.NotBuilt unbuilt.Words)
 abbrev pub names_of : Option Request → List (List ℕ)
 names_of None = []
 names_of (Some (SimSafe commits trace max_inst object args)) = object ∷ cons_option trace []
-names_of (Some (Record out input files max_inst object args)) = []
+names_of (Some (Record out input files max_inst object args)) = object ∷ cons_option input files
 names_of (Some (Asm source object)) = source ∷ []
 names_of (Some (Dis object)) = object ∷ []
 
@@ -190,6 +263,6 @@ names_of (Some (Dis object)) = object ∷ []
 abbrev pub HasOutcome : Option Request → List (List ℕ) → Outcome → Type 0
 HasOutcome None loaded o = o ≡ not_built
 HasOutcome (Some (SimSafe commits trace max_inst object args)) loaded o = SimSafeOutcome commits trace max_inst object args loaded o
-HasOutcome (Some (Record out input files max_inst object args)) loaded o = o ≡ not_built
+HasOutcome (Some (Record out input files max_inst object args)) loaded o = RecordOutcome out input files max_inst object args loaded o
 HasOutcome (Some (Asm source object)) loaded o = AsmOutcome source object loaded o
 HasOutcome (Some (Dis object)) loaded o = DisOutcome object loaded o

@@ -1,5 +1,5 @@
 -- What commands put on their second stream: a line where they refuse, and the statistics of a run.
-use Rattle.std.specs.Prelude.{◌++◌, ℕ, List, [], ◌∷◌, codes, decimal}
+use Rattle.std.specs.Prelude.{◌++◌, ℕ, List, [], codes, decimal}
 use Rattle.ecoff_load.specs.declared.fault.ObjectWhy.{ObjectWhy}
 use Rattle.ecoff_load.specs.declared.fault.ObjectWhy.TheVariants as object
 use Rattle.event_trace.specs.declared.fault.TraceWhy.{TraceWhy}

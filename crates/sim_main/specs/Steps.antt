@@ -1,18 +1,16 @@
 -- What the parts of the top call say of each other.
-use Rattle.std.specs.Prelude.{◌≡◌, ◌≢◌, ◌⊎◌, ◌<◌, ◌≤◌, ◌++◌, ℕ, Bool, List, [], ◌∷◌, length, map, string_bytes, Option, Some, None, IsSome, option_copied, Result, Ok, Err}
+use Rattle.std.specs.Prelude.{◌≡◌, ◌<◌, ◌≤◌, ◌++◌, ℕ, Bool, List, [], ◌∷◌, length, map, string_bytes, Option, Some, None, IsSome, option_copied, Result, Ok}
 use Rattle.std.specs.List.{cons_option}
 use Rattle.ss_base.specs.Outside.{Files, SameFiles, OthersStay, Starts}
 use Rattle.ss_base.specs.declared.fault.PutFault.{PutFault}
-use Rattle.ecoff_load.specs.declared.image.Image.{Image}
 use Rattle.ecoff_load.specs.Object.{IsObject, IsImage}
-use Rattle.event_trace.specs.declared.fault.TraceFault.{TraceFault}
 use Rattle.event_trace.specs.declared.trace.Trace.{Trace}
 use Rattle.event_trace.specs.Grammar.{absent_trace}
 use Rattle.event_trace.specs.Reading.{checked}
 use Rattle.sim_safe.specs.State.{start_state}
 use Rattle.sim_safe.specs.Record.{IsRunTrace}
 use Rattle.sim_opts.specs.declared.request.SimSafe.{SimSafe}
-use Rattle.sim_opts.specs.Borrowed.{sim_safe_in}
+use Rattle.sim_opts.specs.Request.{Request}
 use Rattle.sim_main.specs.declared.ending.Ending.{Ending}
 use Rattle.sim_main.specs.declared.ending.Ending.TheVariants as ending
 use Rattle.sim_main.specs.declared.loading.Prepared.{Prepared}
@@ -20,7 +18,7 @@ use Rattle.sim_main.specs.declared.loading.Prepared.TheVariants as prepared
 use Rattle.sim_main.specs.declared.loading.Program.{Program}
 use Rattle.sim_main.specs.declared.safe.RunFiles.{RunFiles}
 use Rattle.sim_main.specs.Ending.{by_ending}
-use Rattle.sim_main.specs.Outcome.{Outcome, HasOutcome, JudgesObject, JudgesGiven, JudgesTrace, JudgesOrder, Loads, LoadsNamed, object_limit, trace_limit, names_of, ran, refused}
+use Rattle.sim_main.specs.Outcome.{Outcome, HasOutcome, JudgesObject, JudgesGiven, Loads, LoadsNamed, object_limit, trace_limit, names_of, ran, refused}
 use Rattle.sim_main.specs.Answer.{Risen, WholeFile, FileFront, StreamFront}
 
 -- ---- reports
@@ -71,14 +69,30 @@ IsRefusal (ending.Stopped why pc icnt) = ⊥
 IsRefusal ending.Budget = ⊥
 IsRefusal (ending.NotBuilt what) = ⊥
 
+-- what is ready comes to an outcome of loaded files, or what is refused does
+abbrev pub ComesTo : {X : Type 0} → Option Request → (X → Outcome) → List (List ℕ) → Prepared X → Type 0
+ComesTo request of_ready loaded result = Prepares result (λ x. HasOutcome request loaded (of_ready x)) (λ e. HasOutcome request loaded (refused e))
+
+-- so it is of some bytes for each file
+pub record ComesToSome {X : Type 0} (request : Option Request) (of_ready : X → Outcome) (result : Prepared X) : Type 0 where
+  pub loaded : List (List ℕ)
+  pub one_each : length loaded ≡ length (names_of request)
+  pub by : ComesTo request of_ready loaded result
+
 -- a file is loaded whole, or refused as too long
+abbrev pub LoadsAs : {X : Type 0} → Prepared X → (X → List ℕ) → ℕ → List ℕ → List ℕ → Type 0
+LoadsAs result content limit name bytes =
+    Prepares result (λ loaded. (content loaded ≡ bytes) × (length bytes ≤ limit)) (λ e. (e ≡ ending.TooLong name) × (limit < length bytes))
+
 abbrev pub LoadsFile : ℕ → List ℕ → List ℕ → Prepared (List ℕ) → Type 0
-LoadsFile limit name bytes result =
-    Prepares result (λ loaded. (loaded ≡ bytes) × (length bytes ≤ limit)) (λ e. (e ≡ ending.TooLong name) × (limit < length bytes))
+LoadsFile limit name bytes result = LoadsAs result (λ loaded. loaded) limit name bytes
 
 -- the same without the file's bytes
+abbrev pub MayLoadAs : {X : Type 0} → Prepared X → (X → List ℕ) → ℕ → List ℕ → Type 0
+MayLoadAs result content limit name = Prepares result (λ loaded. length (content loaded) ≤ limit) (λ e. e ≡ ending.TooLong name)
+
 abbrev pub MayLoad : ℕ → List ℕ → Prepared (List ℕ) → Type 0
-MayLoad limit name result = Prepares result (λ loaded. length loaded ≤ limit) (λ e. e ≡ ending.TooLong name)
+MayLoad limit name result = MayLoadAs result (λ loaded. loaded) limit name
 
 -- the same of a file that may be named
 abbrev pub LoadsNamedFile : ℕ → Option (List ℕ) → (List ℕ → List ℕ) → Prepared (Option (List ℕ)) → Type 0
@@ -168,13 +182,3 @@ IsOfRun (ending.NotBuilt what) = ⊥
 -- the run that a request asks for
 abbrev pub run_of : SimSafe → Program → Outcome
 run_of r p = ran p.trace r.max_inst (start_state p.image (map string_bytes r.args.now)) (option_copied r.commits)
-
--- what is ready, or refused, is the outcome of loaded files
-abbrev pub PreparedBy : SimSafe → List (List ℕ) → Prepared Program → Type 0
-PreparedBy r loaded result = Prepares result (λ p. HasOutcome (Some (sim_safe_in r)) loaded (run_of r p)) (λ e. HasOutcome (Some (sim_safe_in r)) loaded (refused e))
-
--- so it is of some bytes for each file
-pub record PreparedBySome (r : SimSafe) (result : Prepared Program) : Type 0 where
-  pub loaded : List (List ℕ)
-  pub one_each : length loaded ≡ length (names_of (Some (sim_safe_in r)))
-  pub by : PreparedBy r loaded result

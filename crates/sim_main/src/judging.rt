@@ -1,7 +1,10 @@
 //! What loaded files stand for: the program that is run, or why there is none.
-ghost use Rattle.std.specs.Prelude.{◌≡◌, ◌≢◌, Some, true};
+ghost use Rattle.std.specs.Prelude.{◌≡◌, ◌≢◌, [], Some, true};
+ghost use Rattle.ecoff_load.specs.Object.{IsImage};
 ghost use Rattle.sim_safe.specs.Record.{IsRunTrace};
 ghost use Rattle.sim_main.specs.Outcome.{order_place, refused, JudgesOrder, JudgesGiven};
+ghost use Rattle.sim_main.specs.Answer.{NamesLong};
+ghost use Rattle.sim_main.specs.Making.{JudgesFile};
 ghost use Rattle.sim_main.specs.Steps.{Prepares, JudgesTraceFile, JudgesProgram, IsGiven, CanRun, IsRefusal};
 
 use crate::ending::Ending;
@@ -73,15 +76,31 @@ fn with_trace(alloc: Global, image: Image, calls: Option<Bytes>) -> Prepared<Pro
     }
 }
 
+/// Judges an object.
+pub fn judge_object(alloc: Global, object: &[u8]) -> Prepared<Image>
+    ensures judged { JudgesFile object.now result }
+    ensures kind { Prepares result IsImage IsRefusal }
+    ensures names { Prepares result (λ _. Unit {0}) (λ e. NamesLong [] e) }
+    ensures quiet { result ≢ Prepared.ShelfFault }
+{
+    match ecoff_load::read(alloc, object) {
+        Ok(image) => Prepared::Ready(image),
+        Err(ObjectFault::Bad { at, why }) => Prepared::Refused(Ending::Object { at, why }),
+        Err(ObjectFault::OutOfMemory) => Prepared::OutOfMemory,
+    }
+}
+
 /// Judges an object, and then the trace beside it, if there is one.
+#[tactic(auto, using(crate::proofs::Judged::object_never))]
 pub fn judge_program(alloc: Global, object: &[u8], calls: Option<Bytes>) -> Prepared<Program>
     ensures judged { JudgesProgram object.now calls result }
     ensures kind { Prepares result CanRun IsRefusal }
     ensures quiet { result ≢ Prepared.ShelfFault }
 {
-    match ecoff_load::read(alloc, object) {
-        Ok(image) => with_trace(alloc, image, calls),
-        Err(ObjectFault::Bad { at, why }) => Prepared::Refused(Ending::Object { at, why }),
-        Err(ObjectFault::OutOfMemory) => Prepared::OutOfMemory,
+    match judge_object(alloc, object) {
+        Prepared::Ready(image) => with_trace(alloc, image, calls),
+        Prepared::Refused(ending) => Prepared::Refused(ending),
+        Prepared::ShelfFault => Prepared::ShelfFault,
+        Prepared::OutOfMemory => Prepared::OutOfMemory,
     }
 }

@@ -1,5 +1,5 @@
 //! The command `dis`: an object's instructions as text.
-ghost use Rattle.std.specs.Prelude.{◌≡◌, ◌≢◌, ◌+◌, ◌*◌, ◌<◌, ◌≤◌, ◌++◌, false, [], Err, Some, IfOk, OnOk, length};
+ghost use Rattle.std.specs.Prelude.{◌≡◌, ◌≢◌, ◌+◌, ◌*◌, ◌<◌, ◌≤◌, ◌++◌, false, Err, Some, IfOk, OnOk, length};
 ghost use Rattle.ss_base.specs.Outside.{SameFiles, PutCounts};
 ghost use Rattle.ecoff_load.specs.Object.{IsImage, IsText};
 ghost use Rattle.pisa_isa.specs.Coding.{decoded};
@@ -8,13 +8,14 @@ ghost use Rattle.sim_main.specs.Ending.{is_fault};
 ghost use Rattle.sim_main.specs.Listing.{code_text, line_of, lines_before, listing_of};
 ghost use Rattle.sim_main.specs.Outcome.{names_of, listing_made};
 ghost use Rattle.sim_main.specs.Answer.{EndsByBytes, OutcomeWith, Gets, WholeFile, LeavesFiles, LeavesOutput, LeavesReport, Counts, Quiet, NamesLong, AreHeld, loaded_from};
-ghost use Rattle.sim_main.specs.Steps.{Prepares, PreparedCounts, IsRefusal};
-ghost use Rattle.sim_main.specs.Making.{JudgesFile, ComesTo, ComesToSome, PutsAll};
+ghost use Rattle.sim_main.specs.Steps.{Prepares, PreparedCounts, IsRefusal, ComesTo, ComesToSome};
+ghost use Rattle.sim_main.specs.Making.{PutsAll};
 
 use crate::ending::{Ending, Unbuilt};
+use crate::judging::judge_object;
 use crate::loading::{OBJECT_LIMIT, Prepared, load_file};
 use crate::report::{push_text, refuse};
-use ecoff_load::{Image, ObjectFault, Text};
+use ecoff_load::{Image, Text};
 use pisa_asm::disassemble;
 use pisa_isa::decode;
 use ss_base::{OutOfMemory, PutFault, Shelf, Sink, push_hex};
@@ -92,20 +93,6 @@ fn list<P: Sink>(alloc: Global, text: &Text, prog: &mut P) -> Result<(), PutFaul
     Ok(())
 }
 
-/// Judges an object.
-fn judge_object(alloc: Global, object: &[u8]) -> Prepared<Image>
-    ensures judged { JudgesFile object.now result }
-    ensures kind { Prepares result IsImage IsRefusal }
-    ensures names { Prepares result (λ _. Unit {0}) (λ e. NamesLong [] e) }
-    ensures quiet { result ≢ Prepared.ShelfFault }
-{
-    match ecoff_load::read(alloc, object) {
-        Ok(image) => Prepared::Ready(image),
-        Err(ObjectFault::Bad { at, why }) => Prepared::Refused(Ending::Object { at, why }),
-        Err(ObjectFault::OutOfMemory) => Prepared::OutOfMemory,
-    }
-}
-
 /// Loads an object, and judges it.
 fn prepare<H: Shelf>(alloc: Global, object: &str, shelf: &mut H) -> Prepared<Image>
     ensures by { H.tells shelf.old → ComesTo (Some (Dis object.now)) listing_made (loaded_from (Some (Dis object.now)) (H.files shelf.old)) result }
@@ -127,7 +114,7 @@ fn prepare<H: Shelf>(alloc: Global, object: &str, shelf: &mut H) -> Prepared<Ima
 }
 
 /// Puts the listing of an object's text on `prog`.
-#[tactic(auto, using(crate::proofs::Making::leaves_files, crate::proofs::Making::leaves_output, crate::proofs::Making::leaves_report, crate::proofs::Making::refusal_last))]
+#[tactic(auto, using(crate::proofs::Leaves::leaves_files, crate::proofs::Leaves::leaves_output, crate::proofs::Leaves::leaves_report, crate::proofs::Leaves::refusal_last))]
 pub fn dis<H: Shelf, P: Sink, R: Sink>(
     alloc: Global,
     object: &str,
@@ -140,6 +127,7 @@ pub fn dis<H: Shelf, P: Sink, R: Sink>(
     ensures files { H.tells shelf.old → LeavesFiles (Some (Dis object.now)) (H.files shelf.old) (H.files shelf.new) result }
     ensures prog { H.tells shelf.old → P.tells prog.old → LeavesOutput (Some (Dis object.now)) (H.files shelf.old) (P.contents prog.old) (P.contents prog.new) result }
     ensures stat { H.tells shelf.old → R.tells stat.old → LeavesReport (Some (Dis object.now)) (H.files shelf.old) (R.contents stat.old) (R.contents stat.new) result }
+    ensures memory { R.tells stat.old → result ≡ Ending.OutOfMemory → R.contents stat.new ≡ R.contents stat.old }
     ensures built { result ≢ Ending.NotBuilt Unbuilt.Words }
     ensures names { NamesLong (names_of (Some (Dis object.now))) result }
     ensures count { Counts (H.faults shelf.old, P.faults prog.old, R.faults stat.old) (H.faults shelf.new, P.faults prog.new, R.faults stat.new) result }

@@ -1,11 +1,8 @@
 //! What a command does before its run: it loads its files, and then judges them.
-ghost use Rattle.std.specs.Prelude.{◌≡◌, ◌≢◌, ◌≤◌, length, IsSome, Option, Some, None};
+ghost use Rattle.std.specs.Prelude.{◌≡◌, ◌≢◌, length, IsSome, Option, Some, None};
 ghost use Rattle.std.specs.Option.{option_copied};
 ghost use Rattle.ss_base.specs.Outside.{SameFiles, bytes_at};
-ghost use Rattle.sim_opts.specs.Borrowed.{sim_safe_in};
-ghost use Rattle.sim_main.specs.Outcome.{order_place, names_of};
-ghost use Rattle.sim_main.specs.Answer.{AreHeld, NamesLong, loaded_from};
-ghost use Rattle.sim_main.specs.Steps.{Prepares, PreparedCounts, LoadsFile, MayLoad, LoadsNamedFile, MayLoadNamed, JudgesTraceFile, JudgesProgram, CanRun, IsRefusal, PreparedBy, PreparedBySome, IsGiven, NamedHeld};
+ghost use Rattle.sim_main.specs.Steps.{Prepares, PreparedCounts, LoadsAs, LoadsFile, MayLoadAs, MayLoad, LoadsNamedFile, MayLoadNamed, NamedHeld};
 
 use crate::ending::Ending;
 use ecoff_load::Image;
@@ -42,7 +39,7 @@ pub struct Program {
 }
 
 /// The refusal of a file that is too long.
-fn too_long(alloc: Global, name: &str) -> Prepared<Bytes>
+fn too_long(alloc: Global, name: &str) -> Prepared<Vec<u8>>
     ensures refused { Prepares result (λ _. ⊥) (λ e. e ≡ Ending.TooLong name.now) }
     ensures quiet { result ≢ Prepared.ShelfFault }
 {
@@ -51,6 +48,25 @@ fn too_long(alloc: Global, name: &str) -> Prepared<Bytes>
             name: Name::from_string(name),
         }),
         Err(_) => Prepared::OutOfMemory,
+    }
+}
+
+/// Loads a file of at most `limit` bytes into a `Vec`.
+pub fn load_vec<H: Shelf>(alloc: Global, name: &str, limit: u64, shelf: &mut H) -> Prepared<Vec<u8>>
+    ensures bytes { H.tells shelf.old → LoadsAs result (λ v. v.items) limit name.now (bytes_at (H.files shelf.old) name.now) }
+    ensures length { MayLoadAs result (λ v. v.items) limit name.now }
+    ensures count { PreparedCounts (H.faults shelf.old) (H.faults shelf.new) result }
+    ensures same { H.tells shelf.old → SameFiles (H.files shelf.old) (H.files shelf.new) }
+    ensures telling { H.tells shelf.old → H.tells shelf.new }
+    ensures calm { H.calm shelf.old → H.calm shelf.new }
+    ensures succeeds { H.calm shelf.old → H.tells shelf.old → IsSome (H.files shelf.old name.now) → result ≢ Prepared.ShelfFault }
+{
+    let mut bytes = Vec::new(alloc);
+    match shelf.load(name, limit, &mut bytes) {
+        Ok(()) => Prepared::Ready(bytes),
+        Err(LoadFault::Failed) => Prepared::ShelfFault,
+        Err(LoadFault::TooLong) => too_long(alloc, name),
+        Err(LoadFault::OutOfMemory) => Prepared::OutOfMemory,
     }
 }
 
@@ -64,12 +80,11 @@ pub fn load_file<H: Shelf>(alloc: Global, name: &str, limit: u64, shelf: &mut H)
     ensures calm { H.calm shelf.old → H.calm shelf.new }
     ensures succeeds { H.calm shelf.old → H.tells shelf.old → IsSome (H.files shelf.old name.now) → result ≢ Prepared.ShelfFault }
 {
-    let mut bytes = Vec::new(alloc);
-    match shelf.load(name, limit, &mut bytes) {
-        Ok(()) => Prepared::Ready(Bytes::from_vec(bytes)),
-        Err(LoadFault::Failed) => Prepared::ShelfFault,
-        Err(LoadFault::TooLong) => too_long(alloc, name),
-        Err(LoadFault::OutOfMemory) => Prepared::OutOfMemory,
+    match load_vec(alloc, name, limit, shelf) {
+        Prepared::Ready(bytes) => Prepared::Ready(Bytes::from_vec(bytes)),
+        Prepared::Refused(ending) => Prepared::Refused(ending),
+        Prepared::ShelfFault => Prepared::ShelfFault,
+        Prepared::OutOfMemory => Prepared::OutOfMemory,
     }
 }
 

@@ -11,6 +11,8 @@ mod ending;
 mod judging;
 mod listing;
 mod loading;
+mod recorded_files;
+mod recording;
 mod report;
 mod running;
 mod safe;

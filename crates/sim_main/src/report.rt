@@ -1,5 +1,5 @@
 //! What goes to the second stream: the line of a refusal, and the statistics of a run.
-ghost use Rattle.std.specs.Prelude.{◌≡◌, ◌++◌, false, IfOk, OnOk, codes};
+ghost use Rattle.std.specs.Prelude.{◌≡◌, ◌++◌, false, OnOk, codes};
 ghost use Rattle.sim_main.specs.Ending.{is_fault, by_ending, ending_of};
 ghost use Rattle.sim_main.specs.Report.{object_why_text, trace_why_text, text_why_text, refusal_line, fault_line, statistics_text};
 ghost use Rattle.sim_main.specs.Answer.{StreamFront};
@@ -9,8 +9,7 @@ use crate::ending::{Ending, ending_of_run};
 use ecoff_load::ObjectWhy;
 use event_trace::TraceWhy;
 use pisa_asm::TextWhy;
-use sim_safe::push_end;
-use sim_watch::Watched;
+use sim_safe::{RunEnd, Statistics, push_end};
 use ss_base::{OutOfMemory, PutFault, Sink, push_decimal};
 use std::alloc::Global;
 
@@ -130,15 +129,16 @@ fn push_fault_line(into: &mut Vec<u8>, ending: &Ending) -> Result<(), OutOfMemor
 #[tactic(auto, unfolding(crate::specs::Report::statistics_text))]
 fn push_statistics(
     into: &mut Vec<u8>,
-    watched: &Watched,
+    statistics: &Statistics,
+    end: RunEnd,
     pc: u32,
     icnt: u64,
 ) -> Result<(), OutOfMemory>
-    ensures { OnOk result (into.new.items ≡ into.old.items ++ statistics_text watched.now.statistics watched.now.end pc icnt) }
+    ensures { OnOk result (into.new.items ≡ into.old.items ++ statistics_text statistics.now end pc icnt) }
 {
-    watched.statistics.push(0, into)?;
+    statistics.push(0, into)?;
     push_text(into, "sim_end ")?;
-    push_end(into, watched.end, pc, icnt)?;
+    push_end(into, end, pc, icnt)?;
     push_text(into, "\n")
 }
 
@@ -147,6 +147,7 @@ fn push_statistics(
 fn put_report<R: Sink>(text: &[u8], ending: Ending, stat: &mut R) -> Ending
     requires { is_fault ending ≡ false }
     ensures stat { R.tells stat.old → by_ending result (R.contents stat.new ≡ R.contents stat.old ++ text.now) (StreamFront (R.contents stat.old) text.now (R.contents stat.new)) }
+    ensures memory { R.tells stat.old → result ≡ Ending.OutOfMemory → R.contents stat.new ≡ R.contents stat.old }
     ensures ending { by_ending result (result ≡ ending) (Unit {0}) }
     ensures count { ReportCounts (R.faults stat.old) (R.faults stat.new) result }
     ensures telling { R.tells stat.old → R.tells stat.new }
@@ -163,6 +164,7 @@ fn put_report<R: Sink>(text: &[u8], ending: Ending, stat: &mut R) -> Ending
 pub fn refuse<R: Sink>(alloc: Global, ending: Ending, stat: &mut R) -> Ending
     requires { is_fault ending ≡ false }
     ensures stat { R.tells stat.old → by_ending result (R.contents stat.new ≡ R.contents stat.old ++ fault_line ending) (StreamFront (R.contents stat.old) (fault_line ending) (R.contents stat.new)) }
+    ensures memory { R.tells stat.old → result ≡ Ending.OutOfMemory → R.contents stat.new ≡ R.contents stat.old }
     ensures ending { by_ending result (result ≡ ending) (Unit {0}) }
     ensures count { ReportCounts (R.faults stat.old) (R.faults stat.new) result }
     ensures telling { R.tells stat.old → R.tells stat.new }
@@ -174,25 +176,27 @@ pub fn refuse<R: Sink>(alloc: Global, ending: Ending, stat: &mut R) -> Ending
     }
 }
 
-/// Ends a run that ended at `pc`, after `icnt` instructions: its statistics go to the stream.
+/// Ends a run that ended so at `pc`, after `icnt` instructions: its statistics go to the stream.
 #[tactic(auto, using(crate::proofs::Endings::no_report, crate::proofs::Endings::run_answers))]
 pub fn report_run<R: Sink>(
     alloc: Global,
-    watched: &Watched,
+    end: RunEnd,
+    statistics: &Statistics,
     pc: u32,
     icnt: u64,
     stat: &mut R,
 ) -> Ending
-    ensures stat { R.tells stat.old → let text = statistics_text watched.now.statistics watched.now.end pc icnt in
+    ensures stat { R.tells stat.old → let text = statistics_text statistics.now end pc icnt in
         by_ending result (R.contents stat.new ≡ R.contents stat.old ++ text) (StreamFront (R.contents stat.old) text (R.contents stat.new)) }
-    ensures ending { by_ending result (result ≡ ending_of watched.now.end pc icnt) (Unit {0}) }
+    ensures memory { R.tells stat.old → result ≡ Ending.OutOfMemory → R.contents stat.new ≡ R.contents stat.old }
+    ensures ending { by_ending result (result ≡ ending_of end pc icnt) (Unit {0}) }
     ensures count { ReportCounts (R.faults stat.old) (R.faults stat.new) result }
     ensures telling { R.tells stat.old → R.tells stat.new }
 {
     let mut text = Vec::new(alloc);
-    match push_statistics(&mut text, watched, pc, icnt) {
+    match push_statistics(&mut text, statistics, end, pc, icnt) {
         Ok(()) => {
-            let ending = ending_of_run(watched.end, pc, icnt);
+            let ending = ending_of_run(end, pc, icnt);
             put_report(text.as_slice(), ending, stat)
         }
         Err(_) => Ending::OutOfMemory,

@@ -1,5 +1,5 @@
 //! A run from a program's start to its last report.
-ghost use Rattle.std.specs.Prelude.{◌≡◌, ◌≢◌, ◌+◌, ◌^◌, ◌<◌, ◌≤◌, ◌++◌, ℕ, Bool, [], Err, length, map, string_bytes};
+ghost use Rattle.std.specs.Prelude.{◌≡◌, ◌≢◌, ◌+◌, ◌^◌, ◌<◌, ◌≤◌, Bool, Err, length, map, string_bytes};
 ghost use Rattle.std.specs.Option.{option_copied};
 ghost use Rattle.ss_base.specs.Outside.{PutCounts};
 ghost use Rattle.ecoff_load.specs.Start.{block};
@@ -25,7 +25,7 @@ use ss_base::{PutFault, Shelf, Sink};
 use std::alloc::Global;
 
 /// A run ends where so many instructions are done.
-const MOST_INSTRUCTIONS: u64 = 1_000_000_000_000_000;
+pub const MOST_INSTRUCTIONS: u64 = 1_000_000_000_000_000;
 
 /// Makes a file empty that may be named.
 fn start_named<H: Shelf>(shelf: &mut H, name: Option<&str>) -> Result<(), PutFault>
@@ -60,6 +60,7 @@ pub fn run_from<H: Shelf, P: Sink, R: Sink>(
         by_ending result (FilesHold (H.files shelf.old) (option_copied commits.entry) text (H.files shelf.new)) (FilesHoldFront (H.files shelf.old) (option_copied commits.entry) text (H.files shelf.new)) }
     ensures prog { P.tells prog.old → StreamLeaves (ran_for trace.now n (state_of arch) (option_copied commits.entry)).output (P.contents prog.old) (P.contents prog.new) result }
     ensures stat { R.tells stat.old → StreamLeaves (ran_for trace.now n (state_of arch) (option_copied commits.entry)).report (R.contents stat.old) (R.contents stat.new) result }
+    ensures memory { R.tells stat.old → result ≡ Ending.OutOfMemory → R.contents stat.new ≡ R.contents stat.old }
     ensures last { R.faults stat.old < R.faults stat.new → H.tells shelf.old → FilesHold (H.files shelf.old) (option_copied commits.entry) (text_of (items_of trace.now n (state_of arch))) (H.files shelf.new) }
     ensures last_prog { R.faults stat.old < R.faults stat.new → Gets P.tells P.contents prog.old prog.new (ran_for trace.now n (state_of arch) (option_copied commits.entry)).output }
     ensures kind { IsOfRun result }
@@ -72,7 +73,10 @@ pub fn run_from<H: Shelf, P: Sink, R: Sink>(
     ensures succeeds { H.calm shelf.old → result ≢ Ending.ShelfFault }
 {
     match watched_run(alloc, &mut arch, trace, n, shelf, commits, prog) {
-        Ok(watched) => report_run(alloc, &watched, arch.pc(), arch.icnt(), stat),
+        Ok(watched) => {
+            let (pc, icnt) = (arch.pc(), arch.icnt());
+            report_run(alloc, watched.end, &watched.statistics, pc, icnt, stat)
+        }
         Err(WatchFault::Shelf) => Ending::ShelfFault,
         Err(WatchFault::Sink) => Ending::SinkFault,
         Err(WatchFault::OutOfMemory) => Ending::OutOfMemory,
@@ -96,6 +100,7 @@ pub fn run_program<H: Shelf, P: Sink, R: Sink>(
     ensures files { H.tells shelf.old → RunLeaves (run_of request.entry program) (H.files shelf.old) (H.files shelf.new) result }
     ensures prog { P.tells prog.old → StreamLeaves (run_of request.entry program).output (P.contents prog.old) (P.contents prog.new) result }
     ensures stat { R.tells stat.old → StreamLeaves (run_of request.entry program).report (R.contents stat.old) (R.contents stat.new) result }
+    ensures memory { R.tells stat.old → result ≡ Ending.OutOfMemory → R.contents stat.new ≡ R.contents stat.old }
     ensures last { R.faults stat.old < R.faults stat.new → H.tells shelf.old → WholeFile (run_of request.entry program).file (H.files shelf.old) (H.files shelf.new) }
     ensures last_prog { R.faults stat.old < R.faults stat.new → Gets P.tells P.contents prog.old prog.new (run_of request.entry program).output }
     ensures kind { IsOfRun result }

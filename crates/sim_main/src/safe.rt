@@ -1,14 +1,14 @@
 //! The command sim-safe: an object is run, over recorded calls if there are any.
-ghost use Rattle.std.specs.Prelude.{◌≡◌, ◌≢◌, ◌⊎◌, ◌≤◌, ◌<◌, ◌++◌, ◌∷◌, [], ℕ, Bool, false, List, Some, length, map, string_bytes};
+ghost use Rattle.std.specs.Prelude.{◌≡◌, ◌≢◌, ◌≤◌, ◌<◌, ◌∷◌, [], Bool, false, Some, length, map, string_bytes};
 ghost use Rattle.std.specs.List.{cons_option};
 ghost use Rattle.std.specs.Option.{option_copied};
 ghost use Rattle.ss_base.specs.Outside.{SameFiles, bytes_at};
 ghost use Rattle.ecoff_load.specs.Start.{block};
 ghost use Rattle.sim_opts.specs.Borrowed.{sim_safe_in};
 ghost use Rattle.sim_main.specs.Ending.{is_fault};
-ghost use Rattle.sim_main.specs.Outcome.{names_of, not_built};
+ghost use Rattle.sim_main.specs.Outcome.{names_of};
 ghost use Rattle.sim_main.specs.Answer.{EndsByBytes, OutcomeWith, Gets, WholeFile, LeavesFiles, LeavesOutput, LeavesReport, Counts, Quiet, NamesLong, AreHeld, loaded_from};
-ghost use Rattle.sim_main.specs.Steps.{Prepares, PreparedCounts, LoadsAll, LoadsSome, CanRun, IsRefusal, PreparedBy, PreparedBySome};
+ghost use Rattle.sim_main.specs.Steps.{Prepares, PreparedCounts, LoadsAll, LoadsSome, CanRun, IsRefusal, ComesTo, ComesToSome, run_of};
 
 use crate::ending::{Ending, Unbuilt};
 use crate::judging::judge_program;
@@ -65,8 +65,8 @@ fn load_all<H: Shelf>(
 
 /// Loads the files of a request, and then judges them. No file is written.
 fn prepare<H: Shelf>(alloc: Global, request: SimSafe<'_>, shelf: &mut H) -> Prepared<Program>
-    ensures by { H.tells shelf.old → PreparedBy request.entry (loaded_from (Some (sim_safe_in request.entry)) (H.files shelf.old)) result }
-    ensures some { PreparedBySome request.entry result }
+    ensures by { H.tells shelf.old → ComesTo (Some (sim_safe_in request.entry)) (run_of request.entry) (loaded_from (Some (sim_safe_in request.entry)) (H.files shelf.old)) result }
+    ensures some { ComesToSome (Some (sim_safe_in request.entry)) (run_of request.entry) result }
     ensures kind { Prepares result CanRun IsRefusal }
     ensures names { Prepares result (λ _. Unit {0}) (λ e. NamesLong (names_of (Some (sim_safe_in request.entry))) e) }
     ensures count { PreparedCounts (H.faults shelf.old) (H.faults shelf.new) result }
@@ -86,7 +86,7 @@ fn prepare<H: Shelf>(alloc: Global, request: SimSafe<'_>, shelf: &mut H) -> Prep
 }
 
 /// Does what a request asks for, whose start block fits.
-#[tactic(auto, using(crate::proofs::Leaves::ran_files, crate::proofs::Leaves::ran_last, crate::proofs::Leaves::refused_last))]
+#[tactic(auto, using(crate::proofs::Leaves::leaves_files, crate::proofs::Leaves::leaves_output, crate::proofs::Leaves::leaves_report, crate::proofs::Leaves::ready_last, crate::proofs::Leaves::refusal_last))]
 pub fn sim_safe<H: Shelf, P: Sink, R: Sink>(
     alloc: Global,
     request: SimSafe<'_>,
@@ -100,6 +100,7 @@ pub fn sim_safe<H: Shelf, P: Sink, R: Sink>(
     ensures files { H.tells shelf.old → LeavesFiles (Some (sim_safe_in request.entry)) (H.files shelf.old) (H.files shelf.new) result }
     ensures prog { H.tells shelf.old → P.tells prog.old → LeavesOutput (Some (sim_safe_in request.entry)) (H.files shelf.old) (P.contents prog.old) (P.contents prog.new) result }
     ensures stat { H.tells shelf.old → R.tells stat.old → LeavesReport (Some (sim_safe_in request.entry)) (H.files shelf.old) (R.contents stat.old) (R.contents stat.new) result }
+    ensures memory { R.tells stat.old → result ≡ Ending.OutOfMemory → R.contents stat.new ≡ R.contents stat.old }
     ensures built { result ≢ Ending.NotBuilt Unbuilt.Words }
     ensures names { NamesLong (names_of (Some (sim_safe_in request.entry))) result }
     ensures count { Counts (H.faults shelf.old, P.faults prog.old, R.faults stat.old) (H.faults shelf.new, P.faults prog.new, R.faults stat.new) result }

@@ -8,11 +8,12 @@ ghost use Rattle.sim_main.specs.declared.ending.Ending.{Ending};
 ghost use Rattle.sim_main.specs.Ending.{is_fault};
 ghost use Rattle.sim_main.specs.Listing.{instruction_count, place_of};
 ghost use Rattle.sim_main.specs.Outcome.{Outcome, HasOutcome, IsUnbuilt, names_of};
-ghost use Rattle.sim_main.specs.Answer.{EndsByBytes, OutcomeWith, Gets, WholeFile, loaded_from, LeavesFiles, LeavesOutput, LeavesReport, Counts, TellsGrowth, Quiet, NamesLong, AreHeld};
+ghost use Rattle.sim_main.specs.Answer.{EndsByBytes, OutcomeWith, Gets, WholeFile, loaded_from, LeavesFiles, LeavesOutput, LeavesReport, WritesReplay, Counts, TellsGrowth, Quiet, NamesLong, AreHeld};
 
 use crate::assembling::asm;
 use crate::ending::{Ending, Unbuilt};
 use crate::listing::dis;
+use crate::recording::record;
 use crate::safe::sim_safe;
 use sim_opts::{Request, read_request};
 use ss_base::{Shelf, Sink};
@@ -48,6 +49,12 @@ pub fn simulate<H: Shelf, P: Sink, R: Sink>(
     ensures prog { H.tells shelf.old → P.tells prog.old → LeavesOutput (request_of (map string_bytes words.now)) (H.files shelf.old) (P.contents prog.old) (P.contents prog.new) result }
     ensures stat { H.tells shelf.old → R.tells stat.old → LeavesReport (request_of (map string_bytes words.now)) (H.files shelf.old) (R.contents stat.old) (R.contents stat.new) result }
 
+    // want of memory leaves the second stream as it was
+    ensures memory { R.tells stat.old → result ≡ Ending.OutOfMemory → R.contents stat.new ≡ R.contents stat.old }
+
+    // where a run was recorded, sim-safe does it again from the file that was written
+    ensures replay { H.tells shelf.old → is_fault result ≡ false → WritesReplay (request_of (map string_bytes words.now)) (H.files shelf.old) (H.files shelf.new) result }
+
     // where the second stream failed, all else is written whole
     ensures last { H.tells shelf.old → R.faults stat.old < R.faults stat.new → OutcomeWith (request_of (map string_bytes words.now)) (loaded_from (request_of (map string_bytes words.now)) (H.files shelf.old)) (λ o. WholeFile o.file (H.files shelf.old) (H.files shelf.new) × Gets P.tells P.contents prog.old prog.new o.output) }
 
@@ -65,7 +72,7 @@ pub fn simulate<H: Shelf, P: Sink, R: Sink>(
 {
     match read_request(words) {
         Some(Request::SimSafe(request)) => sim_safe(alloc, request, shelf, prog, stat),
-        Some(Request::Record(_)) => not_built(),
+        Some(Request::Record(request)) => record(alloc, request, shelf, prog, stat),
         Some(Request::Asm { source, object }) => asm(alloc, source, object, shelf, prog, stat),
         Some(Request::Dis { object }) => dis(alloc, object, shelf, prog, stat),
         None => not_built(),

@@ -11,6 +11,7 @@ mod assembly;
 mod faults;
 mod objects;
 mod programs;
+mod recordings;
 mod refusals;
 mod traces;
 
@@ -84,7 +85,7 @@ fn words_of_no_shape_are_not_built(rt: HostRuntime) -> Result<(), Fail> {
         &["sim-safe", "-trace", "t", "-commits", "c", "p1"],
         &["sim-cache", "p1"],
         &["dis"],
-        &["record", "-o", "c", "p1"],
+        &["record", "-in", "p1", "-o", "c", "p1"],
     ];
     for words in cases {
         let mut shelf = MemShelf::new(rt.alloc());

@@ -15,7 +15,7 @@ const P1_SOURCE: &[u8] = b".text 0x00400000\nADDIU $2,$0,1\nADDIU $4,$0,7\nSYSCA
 const P1_LISTING: &[u8] = b"00400000 ADDIU $2,$0,1\n00400008 ADDIU $4,$0,7\n00400010 SYSCALL\n";
 
 /// A source with a section of each kind.
-const ALL_SECTIONS: &[u8] = b".text 0x00400140
+pub const ALL_SECTIONS: &[u8] = b".text 0x00400140
 ADDIU $2,$0,17
 LUI $4,4097
 SYSCALL
@@ -99,12 +99,12 @@ const PAGE_LISTING: &[u8] = b"00400000 ADDIU $2,$0,4
 ";
 
 /// Whether a command did its work and reported nothing.
-fn is_made(ran: &Ran) -> bool {
+pub fn is_made(ran: &Ran) -> bool {
     matches!(ran.ending, Ending::Made) && ran.ending.status() == 0 && ran.stat.bytes().is_empty()
 }
 
 /// Performs `asm s o` over a source, with a file in the object's place.
-fn assemble(alloc: Global, source: &[u8]) -> Result<(Ran, MemShelf), Fail> {
+pub fn assemble(alloc: Global, source: &[u8]) -> Result<(Ran, MemShelf), Fail> {
     let mut shelf = MemShelf::new(alloc);
     shelf.add("s", source)?;
     shelf.add("o", b"old")?;

@@ -1,4 +1,4 @@
-use Rattle.std.proofs.Common.{◌≡◌, ◌≤◌, List, ℕ, length, sym, ap, subst, arith}
+use Rattle.std.proofs.Common.{◌≡◌, ◌≤◌, List, ℕ, length, ap, subst, arith}
 use Rattle.ss_base.specs.Outside.{Adds}
 use Rattle.sim_main.specs.Listing.{instruction_count}
 use Rattle.sim_main.proofs.Listed.{some_lines, some_more}
