@@ -18,7 +18,7 @@ text_append : (xs ys : List Item) → text_of (xs ++ ys) ≡ text_of xs ++ text_
 text_append [] ys = refl
 text_append (x ∷ xs) ys = ap (λ t. line_of x ++ t) (text_append xs ys) ∙ sym (append_assoc (line_of x) (text_of xs) (text_of ys))
 
-outputs_append : (xs ys : List Item) → outputs_of (xs ++ ys) ≡ outputs_of xs ++ outputs_of ys
+pub outputs_append : (xs ys : List Item) → outputs_of (xs ++ ys) ≡ outputs_of xs ++ outputs_of ys
 outputs_append [] ys = refl
 outputs_append (x ∷ xs) ys = ap (λ t. output_of x ++ t) (outputs_append xs ys) ∙ sym (append_assoc (output_of x) (outputs_of xs) (outputs_of ys))
 

@@ -1,10 +1,12 @@
 -- What a run that is watched writes, counts and answers.
-use Rattle.std.specs.Prelude.{◌≡◌, ◌≤◌, ◌++◌, ℕ, List, Option, Some, None, Result, Ok, Err}
+use Rattle.std.specs.Prelude.{◌≡◌, ◌≤◌, ◌+◌, ◌-◌, ◌++◌, ℕ, List, Option, Some, None, Result, Ok, Err}
 use Rattle.ss_base.specs.Outside.{Files, bytes_at, BeginsWith, OthersStay, SameFiles}
 use Rattle.event_trace.specs.declared.trace.Trace.{Trace}
 use Rattle.sim_safe.specs.State.{State}
+use Rattle.sim_safe.specs.Commit.{text_of, outputs_of}
 use Rattle.sim_safe.specs.Run.{items_of, after, end_of}
 use Rattle.sim_watch.specs.declared.watch.WatchFault.{WatchFault}
+use Rattle.sim_watch.specs.declared.watch.WatchFault.TheVariants as fault
 use Rattle.sim_watch.specs.declared.run.Watched.{Watched}
 use Rattle.sim_watch.specs.Watch.{Comes}
 use Rattle.sim_watch.specs.Statistics.{statistics_of}
@@ -58,3 +60,30 @@ pub record RunWatched (trace : Trace) (n : ℕ) (s t : State) (w : Watched) : Ty
 abbrev pub RunEnds : Trace → ℕ → State → State → Result Watched WatchFault → Type 0
 RunEnds trace n s t (Ok w) = RunWatched trace n s t w
 RunEnds trace n s t (Err f) = (done : ℕ) × (done ≤ n) × (t ≡ after trace done s)
+
+-- ---- a run that was given up
+
+-- a stream got all of some bytes, and then a front of what is to follow them
+abbrev pub OutputCut : List ℕ → List ℕ → List ℕ → List ℕ → Type 0
+OutputCut old least most new = BeginsWith new (old ++ least) × BeginsWith (old ++ most) new
+
+-- how many of the steps that were done may have a line: the line of a step is made after its output went
+-- out, so the step at which the stream failed has none
+abbrev pub lines_of : WatchFault → ℕ → ℕ
+lines_of fault.Shelf done = done
+lines_of fault.Sink done = done - 1
+lines_of fault.OutOfMemory done = done
+
+-- a run that was given up did some of the steps: the state is that after them and counts each, the file got a
+-- front of their lines, and the stream the output of all but the last of them and a front of the last one's
+pub record GivenUp {H P : Type 0} (tells : H → Type 0) (files : H → Files) (a b : H) (name : Option (List ℕ)) (ptells : P → Type 0) (contents : P → List ℕ) (p q : P) (trace : Trace) (n : ℕ) (s t : State) (f : WatchFault) : Type 0 where
+  pub done : ℕ
+  pub most : done ≤ n
+  pub state : t ≡ after trace done s
+  pub file : tells a → FilesHoldFront (files a) name (text_of (items_of trace (lines_of f done) s)) (files b)
+  pub output : ptells p → OutputCut (contents p) (outputs_of (items_of trace (done - 1) s)) (outputs_of (items_of trace done s)) (contents q)
+  pub count : t.icnt ≡ s.icnt + done
+
+abbrev pub RunGivenUp : {H P : Type 0} (tells : H → Type 0) (files : H → Files) → H → H → Option (List ℕ) → (ptells : P → Type 0) (contents : P → List ℕ) → P → P → Trace → ℕ → State → State → Result Watched WatchFault → Type 0
+RunGivenUp tells files a b name ptells contents p q trace n s t (Ok w) = Unit {0}
+RunGivenUp tells files a b name ptells contents p q trace n s t (Err f) = GivenUp tells files a b name ptells contents p q trace n s t f

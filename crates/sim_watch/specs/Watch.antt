@@ -1,10 +1,11 @@
--- What a fault of a watch means, and a watch that has taken nothing.
-use Rattle.std.specs.Prelude.{◌≡◌, ◌≢◌, ◌≤◌, ◌++◌, ℕ, List, [], Option, Some, None, Result, Ok, Err}
+-- What a fault of a watch means, where a watch was cut, and a watch that has taken nothing.
+use Rattle.std.specs.Prelude.{◌≡◌, ◌≢◌, ◌≤◌, ◌++◌, ℕ, List, [], ◌∷◌, Option, Some, None, Result, Ok, Err}
 use Rattle.std.proofs.Common.{refl, sym, ap, append-nil}
 use Rattle.std.proofs.Math.Seq.{take-length}
 use Rattle.ss_base.specs.Outside.{Files, bytes_at, Rose}
 use Rattle.sim_safe.specs.declared.observer.Meaning.{Meaning}
 use Rattle.sim_safe.specs.declared.observer.Meaning.TheVariants as meaning
+use Rattle.sim_safe.specs.Record.{Item}
 use Rattle.sim_safe.specs.Observed.{Faulted}
 use Rattle.sim_watch.specs.declared.watch.WatchFault.{WatchFault}
 use Rattle.sim_watch.specs.declared.watch.WatchFault.TheVariants as fault
@@ -27,6 +28,23 @@ pub record Comes (calm : Type 0) (name : Option (List ℕ)) (before now : ℕ ×
 abbrev pub CutBy : Type 0 → Option (List ℕ) → ℕ × ℕ → ℕ × ℕ → Option WatchFault → Type 0
 CutBy calm name before now None = ⊥
 CutBy calm name before now (Some f) = Comes calm name before now f
+
+-- ---- where a watch was cut within items, newest first
+
+-- the items before the newest: their output is all there
+abbrev pub earlier : List Item → List Item
+earlier [] = []
+earlier (i ∷ h) = h
+
+-- the items whose lines were made: the output of an item goes out before its line is made
+abbrev pub lined_at : WatchFault → List Item → List Item
+lined_at fault.Shelf h = h
+lined_at fault.Sink h = earlier h
+lined_at fault.OutOfMemory h = h
+
+abbrev pub lined : Option WatchFault → List Item → List Item
+lined None h = h
+lined (Some f) h = lined_at f h
 
 -- ---- answers of the parts of a watch
 

@@ -8,11 +8,11 @@ ghost use Rattle.sim_safe.specs.Run.{items_of};
 ghost use Rattle.sim_safe.specs.Statistics.{no_statistics};
 ghost use Rattle.sim_watch.specs.Run.{RunOutput, RunCounts};
 ghost use Rattle.sim_watch.specs.Parts.{SinkRuns};
-ghost use Rattle.sim_watch.specs.Recorded.{made_of, RecordEnds, OutputCounts};
+ghost use Rattle.sim_watch.specs.Recorded.{made_of, RecordEnds, RecordGivenUp, OutputCounts};
 
 use crate::watch::{TextWatch, WatchFault};
 use event_trace::Recorder;
-use sim_safe::{Arch, RecordEnd, RunFault, Statistics};
+use sim_safe::{Arch, RecordEnd, RunFault, Statistics, steps_keep};
 use ss_base::{MemShelf, Shelf, Sink};
 use std::alloc::Global;
 
@@ -40,7 +40,10 @@ fn observe_recording<H: Shelf, P: Sink>(
     ensures prog { SinkRuns P.tells P.contents P.faults watch.old.prog.now watch.new.prog.now (outputs_of (items_of (made_of recorder.old n (state_of arch.old)).0 n (state_of arch.old))) result }
     ensures counts { RunCounts (H.calm watch.old.shelf.now) (option_copied watch.old.file.now) (H.faults watch.old.shelf.now, P.faults watch.old.prog.now) (H.faults watch.new.shelf.now, P.faults watch.new.prog.now) result }
     ensures ends { RecordEnds recorder.old n (state_of arch.old) recorder.new (state_of arch.new) result }
+    ensures given_up { RecordGivenUp P.tells P.contents watch.old.prog.now watch.new.prog.now recorder.old n (state_of arch.old) (state_of arch.new) result }
 {
+    // each step that is done counts one instruction
+    steps_keep();
     match arch.record(alloc, recorder, n, watch) {
         Ok(end) => Ok(Recorded {
             end,
@@ -67,6 +70,7 @@ fn observe_recording_parts<H: Shelf, P: Sink>(
     ensures prog { SinkRuns P.tells P.contents P.faults prog.old prog.new (outputs_of (items_of (made_of recorder.old n (state_of arch.old)).0 n (state_of arch.old))) result }
     ensures counts { OutputCounts (P.faults prog.old) (P.faults prog.new) result }
     ensures ends { RecordEnds recorder.old n (state_of arch.old) recorder.new (state_of arch.new) result }
+    ensures given_up { RecordGivenUp P.tells P.contents prog.old prog.new recorder.old n (state_of arch.old) (state_of arch.new) result }
 {
     let file = None;
     let mut watch = TextWatch {
@@ -87,7 +91,11 @@ fn observe_recording_parts<H: Shelf, P: Sink>(
 /// answered by its world and recorded. `prog` gets what the program emits, call by call.
 ///
 /// What was done is the run over the trace that it leaves; where that is full, the run ends before
-/// the call that found no room. After a fault `prog` has what it had and a front of what was to come.
+/// the call that found no room.
+///
+/// After a fault there is one number of steps of the whole recording, the one without a fault, that
+/// were done: `arch` is as they leave it, and `prog` got the output of all but the last of them and
+/// a front of the last one's.
 #[tactic(auto, using(crate::proofs::Recordings::output_written, crate::proofs::Recordings::output_telling))]
 pub fn watched_record<P: Sink>(
     alloc: Global,
@@ -101,6 +109,7 @@ pub fn watched_record<P: Sink>(
     // what is written
     ensures output { P.tells prog.old → RunOutput (P.contents prog.old) (outputs_of (items_of (made_of recorder.old n (state_of arch.old)).0 n (state_of arch.old))) (P.contents prog.new) result }
     ensures ends { RecordEnds recorder.old n (state_of arch.old) recorder.new (state_of arch.new) result }
+    ensures given_up { RecordGivenUp P.tells P.contents prog.old prog.new recorder.old n (state_of arch.old) (state_of arch.new) result }
 
     // what holds whatever is told
     ensures counts { OutputCounts (P.faults prog.old) (P.faults prog.new) result }

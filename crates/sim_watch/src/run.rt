@@ -7,12 +7,12 @@ ghost use Rattle.sim_safe.specs.Commit.{text_of, outputs_of};
 ghost use Rattle.sim_safe.specs.Run.{items_of};
 ghost use Rattle.sim_safe.specs.Statistics.{no_statistics};
 ghost use Rattle.sim_watch.specs.Watch.{Writes};
-ghost use Rattle.sim_watch.specs.Run.{FilesHold, RunFiles, RunOutput, RunCounts, RunEnds};
+ghost use Rattle.sim_watch.specs.Run.{FilesHold, RunFiles, RunOutput, RunCounts, RunEnds, RunGivenUp};
 ghost use Rattle.sim_watch.specs.Parts.{ShelfRuns, SinkRuns};
 
 use crate::watch::{TextWatch, WatchFault, write_pending};
 use event_trace::Trace;
-use sim_safe::{Arch, RunEnd, RunFault, Statistics};
+use sim_safe::{Arch, RunEnd, RunFault, Statistics, steps_keep};
 use ss_base::{Shelf, Sink};
 use std::alloc::Global;
 
@@ -57,7 +57,10 @@ fn observe<H: Shelf, P: Sink>(
     ensures prog { SinkRuns P.tells P.contents P.faults watch.old.prog.now watch.new.prog.now (outputs_of (items_of trace.now n (state_of arch.old))) result }
     ensures counts { RunCounts (H.calm watch.old.shelf.now) (option_copied watch.old.file.now) (H.faults watch.old.shelf.now, P.faults watch.old.prog.now) (H.faults watch.new.shelf.now, P.faults watch.new.prog.now) result }
     ensures ends { RunEnds trace.now n (state_of arch.old) (state_of arch.new) result }
+    ensures given_up { RunGivenUp H.tells H.files watch.old.shelf.now watch.new.shelf.now (option_copied watch.old.file.now) P.tells P.contents watch.old.prog.now watch.new.prog.now trace.now n (state_of arch.old) (state_of arch.new) result }
 {
+    // each step that is done counts one instruction
+    steps_keep();
     let end = match arch.run(trace, n, watch) {
         Ok(end) => end,
         Err(RunFault::Watch(fault)) => return Err(watch.fault.unwrap_or(fault)),
@@ -89,6 +92,7 @@ fn observe_parts<H: Shelf, P: Sink>(
     ensures prog { SinkRuns P.tells P.contents P.faults prog.old prog.new (outputs_of (items_of trace.now n (state_of arch.old))) result }
     ensures counts { RunCounts (H.calm shelf.old) (option_copied file.entry) (H.faults shelf.old, P.faults prog.old) (H.faults shelf.new, P.faults prog.new) result }
     ensures ends { RunEnds trace.now n (state_of arch.old) (state_of arch.new) result }
+    ensures given_up { RunGivenUp H.tells H.files shelf.old shelf.new (option_copied file.entry) P.tells P.contents prog.old prog.new trace.now n (state_of arch.old) (state_of arch.new) result }
 {
     let mut watch = TextWatch {
         shelf,
@@ -108,7 +112,9 @@ fn observe_parts<H: Shelf, P: Sink>(
 /// file gets the commit text behind what it holds, in pieces, the last one after the run; where no
 /// file is named there is none, and the shelf is not called.
 ///
-/// After a fault the file and `prog` hold what they held and a front of what was to come.
+/// After a fault there is one number of steps that were done: `arch` is as they leave it, `prog` got
+/// the output of all but the last of them and a front of the last one's, and the file got a front of
+/// their lines. Where `prog` failed, the last step has no line.
 pub fn watched_run<H: Shelf, P: Sink>(
     alloc: Global,
     arch: &mut Arch,
@@ -124,6 +130,7 @@ pub fn watched_run<H: Shelf, P: Sink>(
     ensures files { H.tells shelf.old → RunFiles (H.files shelf.old) (option_copied file.entry) (text_of (items_of trace.now n (state_of arch.old))) (H.files shelf.new) result }
     ensures output { P.tells prog.old → RunOutput (P.contents prog.old) (outputs_of (items_of trace.now n (state_of arch.old))) (P.contents prog.new) result }
     ensures ends { RunEnds trace.now n (state_of arch.old) (state_of arch.new) result }
+    ensures given_up { RunGivenUp H.tells H.files shelf.old shelf.new (option_copied file.entry) P.tells P.contents prog.old prog.new trace.now n (state_of arch.old) (state_of arch.new) result }
 
     // what holds whatever is told
     ensures counts { RunCounts (H.calm shelf.old) (option_copied file.entry) (H.faults shelf.old, P.faults prog.old) (H.faults shelf.new, P.faults prog.new) result }

@@ -2,12 +2,12 @@
 ghost use Rattle.std.specs.Prelude.{◌≡◌, ◌++◌, ◌^◌, ◌<◌, ℕ, List, [], ◌∷◌, length, refl, OnOk};
 ghost use Rattle.std.specs.List.{flat_map};
 ghost use Rattle.std.specs.Option.{option_copied};
-ghost use Rattle.ss_base.specs.Outside.{bytes_at};
+ghost use Rattle.ss_base.specs.Outside.{bytes_at, BeginsWith};
 ghost use Rattle.sim_safe.specs.Record.{IsRunTrace, item_of};
 ghost use Rattle.sim_safe.specs.Commit.{block_bytes, line_of, text_back, outputs_back};
 ghost use Rattle.sim_safe.specs.Statistics.{no_statistics, statistics_back};
 ghost use Rattle.sim_watch.specs.Gets.{ShelfGets, ShelfGetsFront, SinkGets, SinkGetsFront};
-ghost use Rattle.sim_watch.specs.Watch.{meaning_of, CutBy, Puts, Writes, shelf_none, sink_none};
+ghost use Rattle.sim_watch.specs.Watch.{meaning_of, CutBy, earlier, lined, Puts, Writes, shelf_none, sink_none};
 
 use event_trace::{Block, Trace};
 use sim_safe::{CommitRecord, Observer, Statistics, commit_line, emitted};
@@ -134,8 +134,9 @@ impl<'a, 'f, 'n, 'b, 'p, H: Shelf, P: Sink> Observer for TextWatch<'a, 'f, 'n, '
     ghost cut = { λ a h b. record {
       shelf_same : b.shelf.ghost_name ≡ a.shelf.ghost_name;
       prog_same : b.prog.ghost_name ≡ a.prog.ghost_name;
-      shelf : ShelfGetsFront H.tells H.files H.calm H.faults a.shelf.now b.shelf.now a.pending.now.items (option_copied a.file.now) (text_back h);
+      shelf : ShelfGetsFront H.tells H.files H.calm H.faults a.shelf.now b.shelf.now a.pending.now.items (option_copied a.file.now) (text_back (lined b.fault h));
       prog : SinkGetsFront P.tells P.contents a.prog.now b.prog.now (outputs_back h);
+      least : P.tells a.prog.now → BeginsWith (P.contents b.prog.now) (P.contents a.prog.now ++ outputs_back (earlier h));
       fault : CutBy (H.calm a.shelf.now) (option_copied a.file.now) (H.faults a.shelf.now, P.faults a.prog.now) (H.faults b.shelf.now, P.faults b.prog.now) b.fault;
     } };
 
