@@ -9,5 +9,8 @@ pub mod Runs
 pub mod Leaves
 pub mod Listed
 pub mod Making
+pub mod Prefixes
+pub mod Cuts
+pub mod Far
 pub mod Unique
 pub mod Grown

@@ -1,7 +1,7 @@
 -- What the top call answers and leaves.
-use Rattle.std.specs.Prelude.{◌≡◌, ◌⊎◌, ◌<◌, ◌≤◌, ◌++◌, ℕ, List, [], ◌∷◌, length, map, Contains, IsSome, Option, Some, None}
+use Rattle.std.specs.Prelude.{◌≡◌, ◌⊎◌, ◌-◌, ◌<◌, ◌≤◌, ◌++◌, ℕ, List, [], ◌∷◌, length, map, Contains, IsSome, IfSome, Option, Some, None}
 use Rattle.ss_base.specs.Outside.{Files, bytes_at, BeginsWith, SameFiles, OthersStay, Rose}
-use Rattle.sim_opts.specs.Request.{Request}
+use Rattle.sim_opts.specs.Request.{Request, SimSafe, Record, Asm, Dis}
 use Rattle.sim_main.specs.declared.ending.Ending.{Ending}
 use Rattle.sim_main.specs.declared.ending.Ending.TheVariants as ending
 use Rattle.sim_main.specs.Ending.{by_ending}
@@ -61,6 +61,36 @@ LeavesOutput request files old new e = Leaves request (loaded_from request files
 
 abbrev pub LeavesReport : Option Request → Files → List ℕ → List ℕ → Ending → Type 0
 LeavesReport request files old new e = Leaves request (loaded_from request files) e (λ o. new ≡ old ++ o.report) (new ≡ old) (λ o. StreamFront old o.report new)
+
+-- ---- how far a command came that gave up
+
+-- the most instructions that a request allows; only runs have such a limit
+abbrev pub limit_of : Option Request → Option ℕ
+limit_of None = None
+limit_of (Some (SimSafe commits trace max_inst object args)) = Some max_inst
+limit_of (Some (Record out input files max_inst object args)) = Some max_inst
+limit_of (Some (Asm source object)) = None
+limit_of (Some (Dis object)) = None
+
+-- the same request with another limit, where it has one
+abbrev pub with_limit : ℕ → Option Request → Option Request
+with_limit limit None = None
+with_limit limit (Some (SimSafe commits trace max_inst object args)) = Some (SimSafe commits trace limit object args)
+with_limit limit (Some (Record out input files max_inst object args)) = Some (Record out input files limit object args)
+with_limit limit (Some (Asm source object)) = Some (Asm source object)
+with_limit limit (Some (Dis object)) = Some (Dis object)
+
+-- a command came as far as a limit that is at most its own: the file and the first stream hold fronts of
+-- what the same command comes to with this limit, and the stream holds all output of a limit one less
+pub record CameTo (request : Option Request) (loaded : List (List ℕ)) (old new : Files) (before now : List ℕ) : Type 0 where
+  pub limit : ℕ
+  pub most : IfSome (limit_of request) (λ max_inst. limit ≤ max_inst)
+  pub front : OutcomeWith (with_limit limit request) loaded (λ o. FileFront o.file old new × StreamFront before o.output now)
+  pub least : IfSome (limit_of request) (λ _. OutcomeWith (with_limit (limit - 1) request) loaded (λ o. BeginsWith now (before ++ o.output)))
+
+-- it left all files and the first stream as they were, or came so far
+abbrev pub ComesAsFar : Option Request → Files → Files → List ℕ → List ℕ → Type 0
+ComesAsFar request old new before now = (SameFiles old new × (now ≡ before)) ⊎ CameTo request (loaded_from request old) old new before now
 
 -- ---- what is known over files that aren't told, too
 

@@ -76,6 +76,10 @@ enclosed input files image = record { image = image; world = start_world input f
 abbrev pub recorded_of : Record → Enclosed → Outcome
 recorded_of r p = recorded p.world p.image.text.big r.max_inst (start_state p.image (map string_bytes r.args.now)) r.out.now
 
+-- the same request with another limit of instructions
+abbrev pub limited : Record → ℕ → Record
+limited r limit = record r { max_inst = limit }
+
 -- the trace of that run, and whether it is full
 abbrev pub made_for : Record → Enclosed → Trace × Bool
 made_for r p = made_by p.image p.world r.max_inst (map string_bytes r.args.now)
@@ -85,6 +89,10 @@ made_for r p = made_by p.image p.world r.max_inst (map string_bytes r.args.now)
 pub record RecordComes (r : Record) (loaded : List (List ℕ)) (result : Prepared Enclosed) : Type 0 where
   pub comes : ComesTo (Some (record_in r)) (recorded_of r) loaded result
   pub replays : Prepares result (λ p. IsTrace (made_for r p).0 → Replays (Some (record_in r)) loaded (recorded_of r p)) (λ e. Replays (Some (record_in r)) loaded (refused e))
+
+-- so it is with each limit of instructions
+abbrev pub RecordComesEach : Record → List (List ℕ) → Prepared Enclosed → Type 0
+RecordComesEach r loaded result = (limit : ℕ) → RecordComes (limited r limit) loaded result
 
 -- so it is of some bytes for each file
 pub record RecordComesSome (r : Record) (result : Prepared Enclosed) : Type 0 where

@@ -1,16 +1,20 @@
 -- What the parts of the top call say of each other.
-use Rattle.std.specs.Prelude.{◌≡◌, ◌<◌, ◌≤◌, ◌++◌, ℕ, Bool, List, [], ◌∷◌, length, map, string_bytes, Option, Some, None, IsSome, option_copied, Result, Ok}
+use Rattle.std.specs.Prelude.{◌≡◌, ◌-◌, ◌<◌, ◌≤◌, ◌++◌, ℕ, Bool, List, [], ◌∷◌, length, map, string_bytes, Option, Some, None, IsSome, option_copied, Result, Ok}
 use Rattle.std.specs.List.{cons_option}
-use Rattle.ss_base.specs.Outside.{Files, SameFiles, OthersStay, Starts}
+use Rattle.ss_base.specs.Outside.{Files, BeginsWith, SameFiles, OthersStay, Starts}
 use Rattle.ss_base.specs.declared.fault.PutFault.{PutFault}
 use Rattle.ecoff_load.specs.Object.{IsObject, IsImage}
 use Rattle.event_trace.specs.declared.trace.Trace.{Trace}
 use Rattle.event_trace.specs.Grammar.{absent_trace}
 use Rattle.event_trace.specs.Reading.{checked}
-use Rattle.sim_safe.specs.State.{start_state}
+use Rattle.sim_safe.specs.State.{State, start_state}
 use Rattle.sim_safe.specs.Record.{IsRunTrace}
+use Rattle.sim_safe.specs.Commit.{text_of, outputs_of}
+use Rattle.sim_safe.specs.Run.{items_of}
+use Rattle.sim_watch.specs.Run.{FilesHoldFront}
 use Rattle.sim_opts.specs.declared.request.SimSafe.{SimSafe}
 use Rattle.sim_opts.specs.Request.{Request}
+use Rattle.sim_opts.specs.Borrowed.{sim_safe_in}
 use Rattle.sim_main.specs.declared.ending.Ending.{Ending}
 use Rattle.sim_main.specs.declared.ending.Ending.TheVariants as ending
 use Rattle.sim_main.specs.declared.loading.Prepared.{Prepared}
@@ -182,3 +186,30 @@ IsOfRun (ending.NotBuilt what) = ⊥
 -- the run that a request asks for
 abbrev pub run_of : SimSafe → Program → Outcome
 run_of r p = ran p.trace r.max_inst (start_state p.image (map string_bytes r.args.now)) (option_copied r.commits)
+
+-- the same request with another limit of instructions
+abbrev pub limited : SimSafe → ℕ → SimSafe
+limited r limit = record r { max_inst = limit }
+
+-- what each limit comes to, where the files are loaded
+abbrev pub ComesToEach : SimSafe → List (List ℕ) → Prepared Program → Type 0
+ComesToEach r loaded result = (limit : ℕ) → ComesTo (Some (sim_safe_in (limited r limit))) (run_of (limited r limit)) loaded result
+
+-- ---- runs that were given up
+
+-- up to n steps were given up after some of them: files hold a front of their commit text, and a stream
+-- a front of their output, with all output of one step less
+pub record RunCut (trace : Trace) (n : ℕ) (s : State) (commits : Option (List ℕ)) (old new : Files) (before now : List ℕ) : Type 0 where
+  pub done : ℕ
+  pub most : done ≤ n
+  pub file : FilesHoldFront old commits (text_of (items_of trace done s)) new
+  pub output : StreamFront before (outputs_of (items_of trace done s)) now
+  pub least : BeginsWith now (before ++ outputs_of (items_of trace (done - 1) s))
+
+-- the same by what each limit of instructions comes to
+pub record CutWithin (n : ℕ) (of_limit : ℕ → Outcome) (old new : Files) (before now : List ℕ) : Type 0 where
+  pub limit : ℕ
+  pub most : limit ≤ n
+  pub file : FileFront (of_limit limit).file old new
+  pub output : StreamFront before (of_limit limit).output now
+  pub least : BeginsWith now (before ++ (of_limit (limit - 1)).output)

@@ -1,11 +1,11 @@
 //! The command `asm`: the object of a source.
-ghost use Rattle.std.specs.Prelude.{◌≡◌, ◌≢◌, ◌<◌, ◌^◌, false, [], Err, Some, length};
+ghost use Rattle.std.specs.Prelude.{◌≡◌, ◌≢◌, ◌<◌, ◌^◌, false, true, [], Err, Some, length};
 ghost use Rattle.ss_base.specs.Outside.{SameFiles, PutCounts};
 ghost use Rattle.pisa_asm.specs.Passes.{CanBeHeld, described};
 ghost use Rattle.sim_opts.specs.Request.{Asm};
 ghost use Rattle.sim_main.specs.Ending.{is_fault};
 ghost use Rattle.sim_main.specs.Outcome.{names_of, object_made};
-ghost use Rattle.sim_main.specs.Answer.{EndsByBytes, OutcomeWith, Gets, WholeFile, LeavesFiles, LeavesOutput, LeavesReport, Counts, Quiet, NamesLong, AreHeld, loaded_from};
+ghost use Rattle.sim_main.specs.Answer.{EndsByBytes, OutcomeWith, Gets, WholeFile, LeavesFiles, LeavesOutput, LeavesReport, ComesAsFar, Counts, Quiet, NamesLong, AreHeld, loaded_from};
 ghost use Rattle.sim_main.specs.Steps.{Prepares, PreparedCounts, IsRefusal, ComesTo, ComesToSome};
 ghost use Rattle.sim_main.specs.Making.{JudgesText, Writes};
 
@@ -81,7 +81,7 @@ fn write_object<H: Shelf>(
 }
 
 /// Makes an object of a source.
-#[tactic(auto, using(crate::proofs::Leaves::leaves_files, crate::proofs::Leaves::leaves_output, crate::proofs::Leaves::leaves_report, crate::proofs::Leaves::refusal_last))]
+#[tactic(auto, using(crate::proofs::Leaves::leaves_files, crate::proofs::Leaves::leaves_output, crate::proofs::Leaves::leaves_report, crate::proofs::Leaves::refusal_last, crate::proofs::Far::stayed_far))]
 pub fn asm<H: Shelf, P: Sink, R: Sink>(
     alloc: Global,
     source: &str,
@@ -95,6 +95,7 @@ pub fn asm<H: Shelf, P: Sink, R: Sink>(
     ensures files { H.tells shelf.old → LeavesFiles (Some (Asm source.now object.now)) (H.files shelf.old) (H.files shelf.new) result }
     ensures prog { H.tells shelf.old → P.tells prog.old → LeavesOutput (Some (Asm source.now object.now)) (H.files shelf.old) (P.contents prog.old) (P.contents prog.new) result }
     ensures stat { H.tells shelf.old → R.tells stat.old → LeavesReport (Some (Asm source.now object.now)) (H.files shelf.old) (R.contents stat.old) (R.contents stat.new) result }
+    ensures together { H.tells shelf.old → P.tells prog.old → is_fault result ≡ true → ComesAsFar (Some (Asm source.now object.now)) (H.files shelf.old) (H.files shelf.new) (P.contents prog.old) (P.contents prog.new) }
     ensures memory { R.tells stat.old → result ≡ Ending.OutOfMemory → R.contents stat.new ≡ R.contents stat.old }
     ensures built { result ≢ Ending.NotBuilt Unbuilt.Words }
     ensures names { NamesLong (names_of (Some (Asm source.now object.now))) result }

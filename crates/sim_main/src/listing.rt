@@ -1,5 +1,5 @@
 //! The command `dis`: an object's instructions as text.
-ghost use Rattle.std.specs.Prelude.{◌≡◌, ◌≢◌, ◌+◌, ◌*◌, ◌<◌, ◌≤◌, ◌++◌, false, Err, Some, IfOk, OnOk, length};
+ghost use Rattle.std.specs.Prelude.{◌≡◌, ◌≢◌, ◌+◌, ◌*◌, ◌<◌, ◌≤◌, ◌++◌, false, true, Err, Some, IfOk, OnOk, length};
 ghost use Rattle.ss_base.specs.Outside.{SameFiles, PutCounts};
 ghost use Rattle.ecoff_load.specs.Object.{IsImage, IsText};
 ghost use Rattle.pisa_isa.specs.Coding.{decoded};
@@ -7,7 +7,7 @@ ghost use Rattle.sim_opts.specs.Request.{Dis};
 ghost use Rattle.sim_main.specs.Ending.{is_fault};
 ghost use Rattle.sim_main.specs.Listing.{code_text, line_of, lines_before, listing_of};
 ghost use Rattle.sim_main.specs.Outcome.{names_of, listing_made};
-ghost use Rattle.sim_main.specs.Answer.{EndsByBytes, OutcomeWith, Gets, WholeFile, LeavesFiles, LeavesOutput, LeavesReport, Counts, Quiet, NamesLong, AreHeld, loaded_from};
+ghost use Rattle.sim_main.specs.Answer.{EndsByBytes, OutcomeWith, Gets, WholeFile, LeavesFiles, LeavesOutput, LeavesReport, ComesAsFar, Counts, Quiet, NamesLong, AreHeld, loaded_from};
 ghost use Rattle.sim_main.specs.Steps.{Prepares, PreparedCounts, IsRefusal, ComesTo, ComesToSome};
 ghost use Rattle.sim_main.specs.Making.{PutsAll};
 
@@ -114,7 +114,7 @@ fn prepare<H: Shelf>(alloc: Global, object: &str, shelf: &mut H) -> Prepared<Ima
 }
 
 /// Puts the listing of an object's text on `prog`.
-#[tactic(auto, using(crate::proofs::Leaves::leaves_files, crate::proofs::Leaves::leaves_output, crate::proofs::Leaves::leaves_report, crate::proofs::Leaves::refusal_last))]
+#[tactic(auto, using(crate::proofs::Leaves::leaves_files, crate::proofs::Leaves::leaves_output, crate::proofs::Leaves::leaves_report, crate::proofs::Leaves::refusal_last, crate::proofs::Far::stayed_far, crate::proofs::Far::listing_far))]
 pub fn dis<H: Shelf, P: Sink, R: Sink>(
     alloc: Global,
     object: &str,
@@ -127,6 +127,7 @@ pub fn dis<H: Shelf, P: Sink, R: Sink>(
     ensures files { H.tells shelf.old → LeavesFiles (Some (Dis object.now)) (H.files shelf.old) (H.files shelf.new) result }
     ensures prog { H.tells shelf.old → P.tells prog.old → LeavesOutput (Some (Dis object.now)) (H.files shelf.old) (P.contents prog.old) (P.contents prog.new) result }
     ensures stat { H.tells shelf.old → R.tells stat.old → LeavesReport (Some (Dis object.now)) (H.files shelf.old) (R.contents stat.old) (R.contents stat.new) result }
+    ensures together { H.tells shelf.old → P.tells prog.old → is_fault result ≡ true → ComesAsFar (Some (Dis object.now)) (H.files shelf.old) (H.files shelf.new) (P.contents prog.old) (P.contents prog.new) }
     ensures memory { R.tells stat.old → result ≡ Ending.OutOfMemory → R.contents stat.new ≡ R.contents stat.old }
     ensures built { result ≢ Ending.NotBuilt Unbuilt.Words }
     ensures names { NamesLong (names_of (Some (Dis object.now))) result }

@@ -10,7 +10,7 @@ ghost use Rattle.sim_opts.specs.Borrowed.{record_in};
 ghost use Rattle.sim_main.specs.Outcome.{greatest_end, input_limit, names_of, start_break};
 ghost use Rattle.sim_main.specs.Answer.{AreHeld, NamesLong, loaded_from};
 ghost use Rattle.sim_main.specs.Steps.{IsRefusal, LoadsAs, MayLoadAs, NamedHeld, Prepares, PreparedCounts};
-ghost use Rattle.sim_main.specs.Recording.{LoadsInput, LoadsOpened, LoadsOpenedSome, LoadsRecord, LoadsRecordSome, MayLoadInput, RecordComes, RecordComesSome, enclosed};
+ghost use Rattle.sim_main.specs.Recording.{LoadsInput, LoadsOpened, LoadsOpenedSome, LoadsRecord, LoadsRecordSome, MayLoadInput, RecordComes, RecordComesEach, RecordComesSome, enclosed};
 
 use crate::judging::judge_object;
 use crate::loading::{OBJECT_LIMIT, Prepared, load_file, load_vec};
@@ -213,6 +213,7 @@ fn load_files<H: Shelf>(alloc: Global, request: &Record<'_>, shelf: &mut H) -> P
 /// Loads the files of a request, and then judges its object. No file is written.
 pub fn prepare<H: Shelf>(alloc: Global, request: &Record<'_>, shelf: &mut H) -> Prepared<Enclosed>
     ensures by { H.tells shelf.old → RecordComes request.now (loaded_from (Some (record_in request.now)) (H.files shelf.old)) result }
+    ensures each { H.tells shelf.old → RecordComesEach request.now (loaded_from (Some (record_in request.now)) (H.files shelf.old)) result }
     ensures some { RecordComesSome request.now result }
     ensures kind { Prepares result (λ p. IsImage p.image) IsRefusal }
     ensures names { Prepares result (λ _. Unit {0}) (λ e. NamesLong (names_of (Some (record_in request.now))) e) }

@@ -1,5 +1,5 @@
 //! The command record: an object is run in a closed world, and the calls of the run are recorded.
-ghost use Rattle.std.specs.Prelude.{◌≡◌, ◌≢◌, ◌+◌, ◌^◌, ◌<◌, ◌≤◌, ℕ, Bool, false, [], Err, Some, length, map, string_bytes};
+ghost use Rattle.std.specs.Prelude.{◌≡◌, ◌≢◌, ◌+◌, ◌^◌, ◌<◌, ◌≤◌, ℕ, Bool, false, true, [], Err, Some, length, map, string_bytes};
 ghost use Rattle.ss_base.specs.Outside.{PutCounts};
 ghost use Rattle.ecoff_load.specs.Object.{IsImage};
 ghost use Rattle.ecoff_load.specs.Start.{block};
@@ -11,10 +11,10 @@ ghost use Rattle.sim_opts.specs.Borrowed.{record_in};
 ghost use Rattle.sim_main.specs.Ending.{is_fault, by_ending, ending_of};
 ghost use Rattle.sim_main.specs.Report.{statistics_text};
 ghost use Rattle.sim_main.specs.Outcome.{names_of, recorded_for};
-ghost use Rattle.sim_main.specs.Answer.{AreHeld, Counts, EndsByBytes, Gets, LeavesFiles, LeavesOutput, LeavesReport, NamesLong, OutcomeWith, Quiet, WholeFile, FileFront, WritesReplay, loaded_from};
-ghost use Rattle.sim_main.specs.Steps.{IsOfRun, RunLeaves, StreamLeaves};
+ghost use Rattle.sim_main.specs.Answer.{AreHeld, ComesAsFar, Counts, EndsByBytes, Gets, LeavesFiles, LeavesOutput, LeavesReport, NamesLong, OutcomeWith, Quiet, WholeFile, FileFront, WritesReplay, loaded_from};
+ghost use Rattle.sim_main.specs.Steps.{CutWithin, IsOfRun, RunLeaves, StreamLeaves};
 ghost use Rattle.sim_main.specs.Making.{Writes};
-ghost use Rattle.sim_main.specs.Recording.{made_for, recorded_of, run_end};
+ghost use Rattle.sim_main.specs.Recording.{limited, made_for, recorded_of, run_end};
 
 use crate::ending::{Ending, Unbuilt};
 use crate::loading::Prepared;
@@ -114,6 +114,8 @@ fn record_from<H: Shelf, P: Sink, R: Sink>(
     ensures files { H.tells shelf.old → H.files shelf.old out.now ≡ Some [] → RunLeaves (recorded_for (made_of recorder n (state_of arch)) n (state_of arch) out.now) (H.files shelf.old) (H.files shelf.new) result }
     ensures prog { P.tells prog.old → StreamLeaves (recorded_for (made_of recorder n (state_of arch)) n (state_of arch) out.now).output (P.contents prog.old) (P.contents prog.new) result }
     ensures stat { R.tells stat.old → StreamLeaves (recorded_for (made_of recorder n (state_of arch)) n (state_of arch) out.now).report (R.contents stat.old) (R.contents stat.new) result }
+    ensures together { H.tells shelf.old → P.tells prog.old → H.files shelf.old out.now ≡ Some [] → recorder.trace.file ≡ true → is_fault result ≡ true →
+        CutWithin n (λ limit. recorded_for (made_of recorder limit (state_of arch)) limit (state_of arch) out.now) (H.files shelf.old) (H.files shelf.new) (P.contents prog.old) (P.contents prog.new) }
     ensures memory { R.tells stat.old → result ≡ Ending.OutOfMemory → R.contents stat.new ≡ R.contents stat.old }
     ensures last { R.faults stat.old < R.faults stat.new → H.tells shelf.old → H.files shelf.old out.now ≡ Some [] → WholeFile (recorded_for (made_of recorder n (state_of arch)) n (state_of arch) out.now).file (H.files shelf.old) (H.files shelf.new) }
     ensures last_prog { R.faults stat.old < R.faults stat.new → Gets P.tells P.contents prog.old prog.new (recorded_for (made_of recorder n (state_of arch)) n (state_of arch) out.now).output }
@@ -152,6 +154,7 @@ fn record_program<H: Shelf, P: Sink, R: Sink>(
     ensures files { H.tells shelf.old → RunLeaves (recorded_of request.now program) (H.files shelf.old) (H.files shelf.new) result }
     ensures prog { P.tells prog.old → StreamLeaves (recorded_of request.now program).output (P.contents prog.old) (P.contents prog.new) result }
     ensures stat { R.tells stat.old → StreamLeaves (recorded_of request.now program).report (R.contents stat.old) (R.contents stat.new) result }
+    ensures together { H.tells shelf.old → P.tells prog.old → is_fault result ≡ true → CutWithin request.now.max_inst (λ limit. recorded_of (limited request.now limit) program) (H.files shelf.old) (H.files shelf.new) (P.contents prog.old) (P.contents prog.new) }
     ensures memory { R.tells stat.old → result ≡ Ending.OutOfMemory → R.contents stat.new ≡ R.contents stat.old }
     ensures last { R.faults stat.old < R.faults stat.new → H.tells shelf.old → WholeFile (recorded_of request.now program).file (H.files shelf.old) (H.files shelf.new) }
     ensures last_prog { R.faults stat.old < R.faults stat.new → Gets P.tells P.contents prog.old prog.new (recorded_of request.now program).output }
@@ -183,7 +186,7 @@ fn record_program<H: Shelf, P: Sink, R: Sink>(
 }
 
 /// Does what a request asks for, whose start block fits.
-#[tactic(auto, using(crate::proofs::Leaves::leaves_files, crate::proofs::Leaves::leaves_output, crate::proofs::Leaves::leaves_report, crate::proofs::Leaves::ready_last, crate::proofs::Leaves::refusal_last))]
+#[tactic(auto, using(crate::proofs::Leaves::leaves_files, crate::proofs::Leaves::leaves_output, crate::proofs::Leaves::leaves_report, crate::proofs::Leaves::ready_last, crate::proofs::Leaves::refusal_last, crate::proofs::Far::stayed_far))]
 pub fn record<H: Shelf, P: Sink, R: Sink>(
     alloc: Global,
     request: Record<'_>,
@@ -198,6 +201,7 @@ pub fn record<H: Shelf, P: Sink, R: Sink>(
     ensures replay { H.tells shelf.old → is_fault result ≡ false → WritesReplay (Some (record_in request.entry)) (H.files shelf.old) (H.files shelf.new) result }
     ensures prog { H.tells shelf.old → P.tells prog.old → LeavesOutput (Some (record_in request.entry)) (H.files shelf.old) (P.contents prog.old) (P.contents prog.new) result }
     ensures stat { H.tells shelf.old → R.tells stat.old → LeavesReport (Some (record_in request.entry)) (H.files shelf.old) (R.contents stat.old) (R.contents stat.new) result }
+    ensures together { H.tells shelf.old → P.tells prog.old → is_fault result ≡ true → ComesAsFar (Some (record_in request.entry)) (H.files shelf.old) (H.files shelf.new) (P.contents prog.old) (P.contents prog.new) }
     ensures memory { R.tells stat.old → result ≡ Ending.OutOfMemory → R.contents stat.new ≡ R.contents stat.old }
     ensures built { result ≢ Ending.NotBuilt Unbuilt.Words }
     ensures names { NamesLong (names_of (Some (record_in request.entry))) result }

@@ -1,5 +1,5 @@
 //! A run from a program's start to its last report.
-ghost use Rattle.std.specs.Prelude.{◌≡◌, ◌≢◌, ◌+◌, ◌^◌, ◌<◌, ◌≤◌, Bool, Err, length, map, string_bytes};
+ghost use Rattle.std.specs.Prelude.{◌≡◌, ◌≢◌, ◌+◌, ◌^◌, ◌<◌, ◌≤◌, Bool, true, Err, length, map, string_bytes};
 ghost use Rattle.std.specs.Option.{option_copied};
 ghost use Rattle.ss_base.specs.Outside.{PutCounts};
 ghost use Rattle.ecoff_load.specs.Start.{block};
@@ -8,10 +8,10 @@ ghost use Rattle.sim_safe.specs.Record.{IsRunTrace};
 ghost use Rattle.sim_safe.specs.Commit.{text_of};
 ghost use Rattle.sim_safe.specs.Run.{items_of};
 ghost use Rattle.sim_watch.specs.Run.{FilesHold, FilesHoldFront};
-ghost use Rattle.sim_main.specs.Ending.{by_ending};
+ghost use Rattle.sim_main.specs.Ending.{by_ending, is_fault};
 ghost use Rattle.sim_main.specs.Outcome.{ran_for};
 ghost use Rattle.sim_main.specs.Answer.{Counts, Quiet, Gets, WholeFile};
-ghost use Rattle.sim_main.specs.Steps.{StartsNamed, StreamLeaves, RunLeaves, IsOfRun, CanRun, run_of};
+ghost use Rattle.sim_main.specs.Steps.{StartsNamed, StreamLeaves, RunLeaves, RunCut, CutWithin, IsOfRun, CanRun, run_of, limited};
 
 use crate::ending::Ending;
 use crate::loading::Program;
@@ -60,6 +60,7 @@ pub fn run_from<H: Shelf, P: Sink, R: Sink>(
         by_ending result (FilesHold (H.files shelf.old) (option_copied commits.entry) text (H.files shelf.new)) (FilesHoldFront (H.files shelf.old) (option_copied commits.entry) text (H.files shelf.new)) }
     ensures prog { P.tells prog.old → StreamLeaves (ran_for trace.now n (state_of arch) (option_copied commits.entry)).output (P.contents prog.old) (P.contents prog.new) result }
     ensures stat { R.tells stat.old → StreamLeaves (ran_for trace.now n (state_of arch) (option_copied commits.entry)).report (R.contents stat.old) (R.contents stat.new) result }
+    ensures together { H.tells shelf.old → P.tells prog.old → is_fault result ≡ true → RunCut trace.now n (state_of arch) (option_copied commits.entry) (H.files shelf.old) (H.files shelf.new) (P.contents prog.old) (P.contents prog.new) }
     ensures memory { R.tells stat.old → result ≡ Ending.OutOfMemory → R.contents stat.new ≡ R.contents stat.old }
     ensures last { R.faults stat.old < R.faults stat.new → H.tells shelf.old → FilesHold (H.files shelf.old) (option_copied commits.entry) (text_of (items_of trace.now n (state_of arch))) (H.files shelf.new) }
     ensures last_prog { R.faults stat.old < R.faults stat.new → Gets P.tells P.contents prog.old prog.new (ran_for trace.now n (state_of arch) (option_copied commits.entry)).output }
@@ -100,6 +101,7 @@ pub fn run_program<H: Shelf, P: Sink, R: Sink>(
     ensures files { H.tells shelf.old → RunLeaves (run_of request.entry program) (H.files shelf.old) (H.files shelf.new) result }
     ensures prog { P.tells prog.old → StreamLeaves (run_of request.entry program).output (P.contents prog.old) (P.contents prog.new) result }
     ensures stat { R.tells stat.old → StreamLeaves (run_of request.entry program).report (R.contents stat.old) (R.contents stat.new) result }
+    ensures together { H.tells shelf.old → P.tells prog.old → is_fault result ≡ true → CutWithin request.entry.max_inst (λ limit. run_of (limited request.entry limit) program) (H.files shelf.old) (H.files shelf.new) (P.contents prog.old) (P.contents prog.new) }
     ensures memory { R.tells stat.old → result ≡ Ending.OutOfMemory → R.contents stat.new ≡ R.contents stat.old }
     ensures last { R.faults stat.old < R.faults stat.new → H.tells shelf.old → WholeFile (run_of request.entry program).file (H.files shelf.old) (H.files shelf.new) }
     ensures last_prog { R.faults stat.old < R.faults stat.new → Gets P.tells P.contents prog.old prog.new (run_of request.entry program).output }

@@ -1,5 +1,5 @@
 //! The command sim-safe: an object is run, over recorded calls if there are any.
-ghost use Rattle.std.specs.Prelude.{◌≡◌, ◌≢◌, ◌≤◌, ◌<◌, ◌∷◌, [], Bool, false, Some, length, map, string_bytes};
+ghost use Rattle.std.specs.Prelude.{◌≡◌, ◌≢◌, ◌≤◌, ◌<◌, ◌∷◌, [], Bool, false, true, Some, length, map, string_bytes};
 ghost use Rattle.std.specs.List.{cons_option};
 ghost use Rattle.std.specs.Option.{option_copied};
 ghost use Rattle.ss_base.specs.Outside.{SameFiles, bytes_at};
@@ -7,8 +7,8 @@ ghost use Rattle.ecoff_load.specs.Start.{block};
 ghost use Rattle.sim_opts.specs.Borrowed.{sim_safe_in};
 ghost use Rattle.sim_main.specs.Ending.{is_fault};
 ghost use Rattle.sim_main.specs.Outcome.{names_of};
-ghost use Rattle.sim_main.specs.Answer.{EndsByBytes, OutcomeWith, Gets, WholeFile, LeavesFiles, LeavesOutput, LeavesReport, Counts, Quiet, NamesLong, AreHeld, loaded_from};
-ghost use Rattle.sim_main.specs.Steps.{Prepares, PreparedCounts, LoadsAll, LoadsSome, CanRun, IsRefusal, ComesTo, ComesToSome, run_of};
+ghost use Rattle.sim_main.specs.Answer.{EndsByBytes, OutcomeWith, Gets, WholeFile, LeavesFiles, LeavesOutput, LeavesReport, ComesAsFar, Counts, Quiet, NamesLong, AreHeld, loaded_from};
+ghost use Rattle.sim_main.specs.Steps.{Prepares, PreparedCounts, LoadsAll, LoadsSome, CanRun, IsRefusal, ComesTo, ComesToEach, ComesToSome, run_of};
 
 use crate::ending::{Ending, Unbuilt};
 use crate::judging::judge_program;
@@ -66,6 +66,7 @@ fn load_all<H: Shelf>(
 /// Loads the files of a request, and then judges them. No file is written.
 fn prepare<H: Shelf>(alloc: Global, request: SimSafe<'_>, shelf: &mut H) -> Prepared<Program>
     ensures by { H.tells shelf.old → ComesTo (Some (sim_safe_in request.entry)) (run_of request.entry) (loaded_from (Some (sim_safe_in request.entry)) (H.files shelf.old)) result }
+    ensures each { H.tells shelf.old → ComesToEach request.entry (loaded_from (Some (sim_safe_in request.entry)) (H.files shelf.old)) result }
     ensures some { ComesToSome (Some (sim_safe_in request.entry)) (run_of request.entry) result }
     ensures kind { Prepares result CanRun IsRefusal }
     ensures names { Prepares result (λ _. Unit {0}) (λ e. NamesLong (names_of (Some (sim_safe_in request.entry))) e) }
@@ -86,7 +87,7 @@ fn prepare<H: Shelf>(alloc: Global, request: SimSafe<'_>, shelf: &mut H) -> Prep
 }
 
 /// Does what a request asks for, whose start block fits.
-#[tactic(auto, using(crate::proofs::Leaves::leaves_files, crate::proofs::Leaves::leaves_output, crate::proofs::Leaves::leaves_report, crate::proofs::Leaves::ready_last, crate::proofs::Leaves::refusal_last))]
+#[tactic(auto, using(crate::proofs::Leaves::leaves_files, crate::proofs::Leaves::leaves_output, crate::proofs::Leaves::leaves_report, crate::proofs::Leaves::ready_last, crate::proofs::Leaves::refusal_last, crate::proofs::Far::stayed_far))]
 pub fn sim_safe<H: Shelf, P: Sink, R: Sink>(
     alloc: Global,
     request: SimSafe<'_>,
@@ -100,6 +101,7 @@ pub fn sim_safe<H: Shelf, P: Sink, R: Sink>(
     ensures files { H.tells shelf.old → LeavesFiles (Some (sim_safe_in request.entry)) (H.files shelf.old) (H.files shelf.new) result }
     ensures prog { H.tells shelf.old → P.tells prog.old → LeavesOutput (Some (sim_safe_in request.entry)) (H.files shelf.old) (P.contents prog.old) (P.contents prog.new) result }
     ensures stat { H.tells shelf.old → R.tells stat.old → LeavesReport (Some (sim_safe_in request.entry)) (H.files shelf.old) (R.contents stat.old) (R.contents stat.new) result }
+    ensures together { H.tells shelf.old → P.tells prog.old → is_fault result ≡ true → ComesAsFar (Some (sim_safe_in request.entry)) (H.files shelf.old) (H.files shelf.new) (P.contents prog.old) (P.contents prog.new) }
     ensures memory { R.tells stat.old → result ≡ Ending.OutOfMemory → R.contents stat.new ≡ R.contents stat.old }
     ensures built { result ≢ Ending.NotBuilt Unbuilt.Words }
     ensures names { NamesLong (names_of (Some (sim_safe_in request.entry))) result }

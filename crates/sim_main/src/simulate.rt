@@ -1,5 +1,5 @@
 //! The top call: all that the program does.
-ghost use Rattle.std.specs.Prelude.{◌≡◌, ◌≢◌, ◌<◌, ◌↔◌, ℕ, false, List, Option, map, string_bytes};
+ghost use Rattle.std.specs.Prelude.{◌≡◌, ◌≢◌, ◌<◌, ◌↔◌, ℕ, false, true, List, Option, map, string_bytes};
 ghost use Rattle.ecoff_load.specs.declared.image.Text.{Text};
 ghost use Rattle.ecoff_load.specs.Fetch.{IsInstruction};
 ghost use Rattle.sim_opts.specs.Request.{Request as Asked};
@@ -8,7 +8,7 @@ ghost use Rattle.sim_main.specs.declared.ending.Ending.{Ending};
 ghost use Rattle.sim_main.specs.Ending.{is_fault};
 ghost use Rattle.sim_main.specs.Listing.{instruction_count, place_of};
 ghost use Rattle.sim_main.specs.Outcome.{Outcome, HasOutcome, IsUnbuilt, names_of};
-ghost use Rattle.sim_main.specs.Answer.{EndsByBytes, OutcomeWith, Gets, WholeFile, loaded_from, LeavesFiles, LeavesOutput, LeavesReport, WritesReplay, Counts, TellsGrowth, Quiet, NamesLong, AreHeld};
+ghost use Rattle.sim_main.specs.Answer.{EndsByBytes, OutcomeWith, Gets, WholeFile, loaded_from, LeavesFiles, LeavesOutput, LeavesReport, ComesAsFar, WritesReplay, Counts, TellsGrowth, Quiet, NamesLong, AreHeld};
 
 use crate::assembling::asm;
 use crate::ending::{Ending, Unbuilt};
@@ -35,7 +35,8 @@ fn not_built() -> Ending
 /// Where nothing fails, what is answered and written is the outcome of the words and the files that
 /// they load. A failing shelf gives `ShelfFault` and a failing stream `SinkFault`; then, and after
 /// want of memory, each file and stream is as before or has a front of what was to be written, and
-/// nothing more is written.
+/// nothing more is written. A run that gave up did so at one number of instructions, which says how
+/// far both the file and `prog` came.
 #[tactic(auto, using(crate::proofs::Leaves::unbuilt_files, crate::proofs::Leaves::unbuilt_output, crate::proofs::Leaves::unbuilt_report, crate::proofs::Leaves::unbuilt_ends))]
 pub fn simulate<H: Shelf, P: Sink, R: Sink>(
     alloc: Global,
@@ -48,6 +49,9 @@ pub fn simulate<H: Shelf, P: Sink, R: Sink>(
     ensures files { H.tells shelf.old → LeavesFiles (request_of (map string_bytes words.now)) (H.files shelf.old) (H.files shelf.new) result }
     ensures prog { H.tells shelf.old → P.tells prog.old → LeavesOutput (request_of (map string_bytes words.now)) (H.files shelf.old) (P.contents prog.old) (P.contents prog.new) result }
     ensures stat { H.tells shelf.old → R.tells stat.old → LeavesReport (request_of (map string_bytes words.now)) (H.files shelf.old) (R.contents stat.old) (R.contents stat.new) result }
+
+    // where the command gave up, one number of instructions says how far the file and the first stream came
+    ensures together { H.tells shelf.old → P.tells prog.old → is_fault result ≡ true → ComesAsFar (request_of (map string_bytes words.now)) (H.files shelf.old) (H.files shelf.new) (P.contents prog.old) (P.contents prog.new) }
 
     // want of memory leaves the second stream as it was
     ensures memory { R.tells stat.old → result ≡ Ending.OutOfMemory → R.contents stat.new ≡ R.contents stat.old }

@@ -1,7 +1,8 @@
 use Rattle.std.proofs.Common.{Some}
 use Rattle.sim_opts.specs.Borrowed.{record_in}
-use Rattle.sim_main.specs.Recording.{recorded_of}
+use Rattle.sim_main.specs.Recording.{limited, recorded_of}
 use Rattle.sim_main.proofs.Leaves.{leaves_files, ready_ends, ready_replay, refusal_ends, refusal_replay}
+use Rattle.sim_main.proofs.Far.{recording_far}
 use Rattle.sim_main.proofs.recording.record.Goals as goal
 
 pub returns-in-Ready-clause-ending : goal.returns-in-Ready-clause-ending
@@ -38,3 +39,9 @@ pub returns-in-Refused-clause-replay : goal.returns-in-Refused-clause-replay
 returns-in-Refused-clause-replay g c = λ t a.
     let by = c.in-Refused.ensures.by t in
     refusal_replay (Some (record_in c.args.request)) c.in-Refused.ending c.refuse.result (g.H.Shelf.files c.args.shelf.now) (g.H.Shelf.files c.prepare.new.shelf) by.comes by.replays (c.in-Refused.ensures.same t) c.refuse.ensures.ending a
+
+pub returns-in-Ready-clause-together : goal.returns-in-Ready-clause-together
+returns-in-Ready-clause-together g c = λ t p a.
+    let r = c.args.request in
+    recording_far r (λ limit. recorded_of (limited r limit) c.in-Ready.program) (g.H.Shelf.files c.args.shelf.now) (g.H.Shelf.files c.prepare.new.shelf) (g.H.Shelf.files c.record_program.new.shelf) (g.P.Sink.contents c.args.prog.now) (g.P.Sink.contents c.record_program.new.prog)
+    (λ limit. (c.in-Ready.ensures.each t limit).comes) (c.in-Ready.ensures.same t) (c.record_program.ensures.together (c.in-Ready.ensures.telling t) p a)

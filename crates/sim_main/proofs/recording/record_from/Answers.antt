@@ -8,6 +8,10 @@ use Rattle.sim_main.specs.Outcome.{Output}
 use Rattle.sim_main.specs.Answer.{Counts, FileFront, WholeFile}
 use Rattle.sim_main.specs.Steps.{StreamLeaves}
 use Rattle.sim_main.proofs.Runs.{recorded_ending_is, recorded_report_is, recorded_trace_is}
+use Rattle.sim_watch.specs.Recorded.{made_of}
+use Rattle.sim_main.specs.Outcome.{recorded_for}
+use Rattle.sim_main.proofs.Endings.{when_given_up}
+use Rattle.sim_main.proofs.Cuts.{recorded_all, recorded_cut}
 use Rattle.sim_main.proofs.recording.record_from.Goals as goal
 
 pub returns-in-Ok-clause-ending : goal.returns-in-Ok-clause-ending
@@ -41,3 +45,24 @@ returns-in-Ok-clause-count g c =
     let stat = g.R.Sink.faults c.args.stat.now in
     let P : ℕ → Type 0 = λ x. Counts (shelf, before, stat) (g.H.Shelf.faults c.end_recording.new.shelf, x, g.R.Sink.faults c.end_recording.new.stat) c.end_recording.result in
     subst P (sym c.in-Ok.ensures.counts) (c.end_recording.ensures.count before)
+
+pub returns-in-Ok-clause-together : goal.returns-in-Ok-clause-together
+returns-in-Ok-clause-together g c = λ t p started file a.
+    let s = state_of c.args.arch in
+    let o = recorded_for (made_of c.args.recorder c.args.n s) c.args.n s c.args.out.now in
+    let old = g.H.Shelf.files c.args.shelf.now in
+    let new = g.H.Shelf.files c.end_recording.new.shelf in
+    recorded_all c.args.recorder c.args.n s c.args.out.now old new (g.P.Sink.contents c.args.prog.now) (g.P.Sink.contents c.watched_record.new.prog) file
+    (when_given_up c.end_recording.result (WholeFile o.file old new) (FileFront o.file old new) a (returns-in-Ok-clause-files g c t started)) (c.in-Ok.ensures.output p)
+
+pub returns-in-Err-Shelf-clause-together : goal.returns-in-Err-Shelf-clause-together
+returns-in-Err-Shelf-clause-together g c = λ t p started file a.
+    recorded_cut g.P.Sink.tells g.P.Sink.contents c.args.prog.now c.watched_record.new.prog c.args.recorder c.args.n (state_of c.args.arch) (state_of c.watched_record.new.arch) c.args.out.now (g.H.Shelf.files c.args.shelf.now) file c.in-Err-Shelf.ensures.given_up p
+
+pub returns-in-Err-Sink-clause-together : goal.returns-in-Err-Sink-clause-together
+returns-in-Err-Sink-clause-together g c = λ t p started file a.
+    recorded_cut g.P.Sink.tells g.P.Sink.contents c.args.prog.now c.watched_record.new.prog c.args.recorder c.args.n (state_of c.args.arch) (state_of c.watched_record.new.arch) c.args.out.now (g.H.Shelf.files c.args.shelf.now) file c.in-Err-Sink.ensures.given_up p
+
+pub returns-clause-together : goal.returns-clause-together
+returns-clause-together g c = λ t p started file a.
+    recorded_cut g.P.Sink.tells g.P.Sink.contents c.args.prog.now c.watched_record.new.prog c.args.recorder c.args.n (state_of c.args.arch) (state_of c.watched_record.new.arch) c.args.out.now (g.H.Shelf.files c.args.shelf.now) file c.in-Err-OutOfMemory.ensures.given_up p
