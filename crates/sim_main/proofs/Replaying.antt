@@ -65,8 +65,14 @@ ends_again made false n s out commits e stops =
     (ap ending (sym e), ap report (sym e))
 ends_again made true n s out commits e stops =
     let ending : Bool → Ending = λ b. ending_of (if b then ends.Limit else end_of made.0 n s) (after made.0 n s).pc (after made.0 n s).icnt in
-    let k = stops refl in
-    (ap ending e, k.0, ap (λ (x : RunEnd). ending_of x (after made.0 n s).pc (after made.0 n s).icnt) k.1)
+    let report : Bool → List ℕ = λ b. statistics_text (statistics_of (items_of made.0 n s)) (if b then ends.Limit else end_of made.0 n s) (after made.0 n s).pc (after made.0 n s).icnt in
+    let k = stops refl in (
+      ap ending e,
+      ap report e,
+      k.0,
+      ap (λ (x : RunEnd). ending_of x (after made.0 n s).pc (after made.0 n s).icnt) k.1,
+      ap (λ (x : RunEnd). statistics_text (statistics_of (items_of made.0 n s)) x (after made.0 n s).pc (after made.0 n s).icnt) k.1,
+    )
 
 -- sim-safe over a trace file of the object's byte order
 replayed_by : (t : Trace) (out : List ℕ) (max_inst : ℕ) (object : List ℕ) (args : List (List ℕ)) (program : List ℕ) (image : Image) (commits : Option (List ℕ))

@@ -80,8 +80,9 @@ with_limit limit (Some (Record out input files max_inst object args)) = Some (Re
 with_limit limit (Some (Asm source object)) = Some (Asm source object)
 with_limit limit (Some (Dis object)) = Some (Dis object)
 
--- a command came as far as a limit that is at most its own: the file and the first stream hold fronts of
--- what the same command comes to with this limit, and the stream holds all output of a limit one less
+-- a command came as far as a limit, which is at most its own where it has one: the file is as before or
+-- holds a front of its text, and the first stream got a front of the output, that the same command comes to
+-- with this limit; of a run the stream holds all output of a limit one less
 pub record CameTo (request : Option Request) (loaded : List (List ℕ)) (old new : Files) (before now : List ℕ) : Type 0 where
   pub limit : ℕ
   pub most : IfSome (limit_of request) (λ max_inst. limit ≤ max_inst)
@@ -94,7 +95,7 @@ ComesAsFar request old new before now = (SameFiles old new × (now ≡ before)) 
 
 -- ---- what is known over files that aren't told, too
 
--- an answer is the ending of an outcome of some bytes for each file, which holds; a recording among them
+-- an answer is the ending of an outcome of some bytes for each file, which holds; where it was recorded, it
 -- is replayed
 pub record EndsByBytes (request : Option Request) (e : Ending) (Holds : Outcome → Type 0) : Type 0 where
   pub loaded : List (List ℕ)

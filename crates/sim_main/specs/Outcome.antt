@@ -102,7 +102,7 @@ recorded_end made n s = if made.1 then ends.Limit else end_of made.0 n s
 abbrev pub recorded_for : Trace × Bool → ℕ → State → List ℕ → Outcome
 recorded_for made n s out = ran_to made.0 (recorded_end made n s) n s (Some (record { name = out; text = trace_bytes made.0 }))
 
--- the trace that a world makes of up to n steps of a program of a byte order
+-- the trace that a world makes of up to n steps of a program of a byte order, and whether it was full
 abbrev pub trace_made : WorldState → Bool → ℕ → State → Trace × Bool
 trace_made world big n s = recording serve n world (empty_trace big) s
 

@@ -6,21 +6,23 @@ use Rattle.event_trace.specs.declared.trace.Trace.{Trace}
 use Rattle.event_trace.specs.Grammar.{trace_bytes}
 use Rattle.event_trace.specs.Reading.{checked}
 use Rattle.event_trace.specs.World.{WorldState}
+use Rattle.sim_safe.specs.declared.observer.RunEnd.TheVariants as ends
 use Rattle.sim_safe.specs.State.{State, start_state}
 use Rattle.sim_safe.specs.Run.{after}
 use Rattle.sim_opts.specs.Request.{Request, SimSafe, Record, Asm, Dis}
 use Rattle.sim_main.specs.declared.ending.Ending.TheVariants as ending
-use Rattle.sim_main.specs.Outcome.{Outcome, JudgesRecording, SimSafeOutcome, ran, recorded, step_limit, trace_made}
+use Rattle.sim_main.specs.Outcome.{Outcome, JudgesRecording, SimSafeOutcome, ran, recorded, run_report, step_limit, trace_made}
 
 -- how a replay ends: as its recording did, with the same report; where the trace was full, the recording
--- ended at its budget, and the replay stops after the same steps, since no record is left for the call
--- that found no room
+-- ended at its budget, and the replay stops after the same steps, which both reports count, since its next
+-- call finds no record
 abbrev pub EndsAgain : Bool → Trace → ℕ → State → Outcome → Outcome → Type 0
 EndsAgain false trace n s o p = (p.ending ≡ o.ending) × (p.report ≡ o.report)
 EndsAgain true trace n s o p =
-    (o.ending ≡ ending.Budget) × (used : ℕ) × (p.ending ≡ ending.Stopped (cause.TraceEnd used) (after trace n s).pc (after trace n s).icnt)
+    (o.ending ≡ ending.Budget) × (o.report ≡ run_report trace ends.Limit n s) × (used : ℕ)
+    × (p.ending ≡ ending.Stopped (cause.TraceEnd used) (after trace n s).pc (after trace n s).icnt) × (p.report ≡ run_report trace (ends.Stop (cause.TraceEnd used)) n s)
 
--- the trace that a program with arguments and a world makes
+-- the trace that a program with arguments makes in a world, and whether it was full
 abbrev pub made_by : Image → WorldState → ℕ → List (List ℕ) → Trace × Bool
 made_by image world max_inst args = trace_made world image.text.big (step_limit (start_state image args) max_inst) (start_state image args)
 

@@ -36,7 +36,8 @@ fn not_built() -> Ending
 /// they load. A failing shelf gives `ShelfFault` and a failing stream `SinkFault`; then, and after
 /// want of memory, each file and stream is as before or has a front of what was to be written, and
 /// nothing more is written. A run that gave up did so at one number of instructions, which says how
-/// far both the file and `prog` came.
+/// far both the file and `prog` came. Where a run was recorded, the file holds a trace over which
+/// sim-safe, with the same object, arguments and limit, does it again.
 #[tactic(auto, using(crate::proofs::Leaves::unbuilt_files, crate::proofs::Leaves::unbuilt_output, crate::proofs::Leaves::unbuilt_report, crate::proofs::Leaves::unbuilt_ends))]
 pub fn simulate<H: Shelf, P: Sink, R: Sink>(
     alloc: Global,

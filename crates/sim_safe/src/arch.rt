@@ -164,7 +164,7 @@ impl Machine for Arch {
         self.text.big
     }
 
-    /// Whether the range is reserved and meets no text.
+    /// Whether all pages of the range are reserved and none of its bytes lies in the text.
     #[tactic(auto, using(crate::proofs::Rooms::no_room, crate::proofs::Rooms::has_room))]
     fn room(&self, addr: u32, len: u32) -> bool {
         if self.meets_text(addr, len as usize) {

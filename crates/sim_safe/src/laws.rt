@@ -10,7 +10,7 @@ ghost use Rattle.sim_safe.specs.Recording.{recording, serve};
 ghost use Rattle.sim_safe.specs.Laws.{StepKeeps, IsGrown, StopsForRecord};
 
 /// Each step that is done counts one instruction, never gives back a used record, and leaves the
-/// text, its bytes in memory, the byte order and register 0 as they were.
+/// text, its bytes in memory and the byte order as they were. A register 0 that is 0 stays 0.
 #[tactic(auto, using(crate::proofs::Keeping::steps_keep))]
 pub fn steps_keep()
     ensures { (trace : Trace) (s : State) → StepKeeps s (step_of trace s) }
@@ -24,8 +24,8 @@ pub fn recordings_add_records()
     ensures within { (n : ℕ) (w : WorldState) (t : Trace) (s : State) → is_within_limits t ≡ true → is_within_limits (recording serve n w t s).0 ≡ true }
 {}
 
-/// Where a recording ended since its trace was full, the run over that trace stops at a call for
-/// which it has no record.
+/// Where a recording into the trace of a file ended since that was full, the run over it stops at a
+/// call for which it has no record.
 pub fn full_recordings_stop()
     ensures { (n : ℕ) (w : WorldState) (t u : Trace) (s : State) → t.file ≡ true → recording serve n w t s ≡ (u, true) → StopsForRecord (end_of u n s) }
 {}

@@ -63,7 +63,7 @@ RunEnds trace n s t (Err f) = (done : ℕ) × (done ≤ n) × (t ≡ after trace
 
 -- ---- a run that was given up
 
--- a stream got all of some bytes, and then a front of what is to follow them
+-- a stream got at least these bytes whole, and no more than a front of those
 abbrev pub OutputCut : List ℕ → List ℕ → List ℕ → List ℕ → Type 0
 OutputCut old least most new = BeginsWith new (old ++ least) × BeginsWith (old ++ most) new
 

@@ -36,7 +36,7 @@ abbrev pub earlier : List Item → List Item
 earlier [] = []
 earlier (i ∷ h) = h
 
--- the items whose lines were made: the output of an item goes out before its line is made
+-- the items whose lines may have been made: the output of an item goes out before its line is made
 abbrev pub lined_at : WatchFault → List Item → List Item
 lined_at fault.Shelf h = h
 lined_at fault.Sink h = earlier h

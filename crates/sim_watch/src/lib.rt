@@ -1,4 +1,5 @@
-//! Runs whose commit text goes to a file and whose output goes to a stream.
+//! Runs whose commit text goes to a file and whose output goes to a stream, and runs whose calls are
+//! recorded while their output goes to a stream.
 #![tactic(auto)]
 
 mod recording;

@@ -90,7 +90,7 @@ fn record_and_replay(rt: &impl Abort, alloc: Global, case: &Recording<'_>) -> Re
 }
 
 #[test]
-fn calls_are_recorded_and_replayed(rt: HostRuntime) -> Result<(), Fail> {
+fn a_read_is_recorded_and_replayed(rt: HostRuntime) -> Result<(), Fail> {
     // ADDIU $2,$0,3; ADDIU $4,$0,0; LUI $5,4096; ADDIU $6,$0,4; SYSCALL, which reads "abc"; the exit
     let reads = Recording {
         code: &[
@@ -128,7 +128,11 @@ fn calls_are_recorded_and_replayed(rt: HostRuntime) -> Result<(), Fail> {
         ],
         end: Expected::Exit(0),
     };
-    record_and_replay(&rt, rt.alloc(), &reads)?;
+    record_and_replay(&rt, rt.alloc(), &reads)
+}
+
+#[test]
+fn an_unknown_call_is_recorded_and_replayed(rt: HostRuntime) -> Result<(), Fail> {
     // ADDIU $2,$0,99; SYSCALL, which no call is, and nothing behind it
     let unknown = Recording {
         code: &[(0x43, 0, 2, 99), (0xa0, 0, 0, 0)],
@@ -148,8 +152,12 @@ fn calls_are_recorded_and_replayed(rt: HostRuntime) -> Result<(), Fail> {
         ],
         end: Expected::Stop(Cause::BadFetch, 0x0040_0010, 2),
     };
-    record_and_replay(&rt, rt.alloc(), &unknown)?;
-    // the same read into the text, whose record stands last
+    record_and_replay(&rt, rt.alloc(), &unknown)
+}
+
+#[test]
+fn a_read_into_the_text_is_recorded_last(rt: HostRuntime) -> Result<(), Fail> {
+    // the program that reads, with the text's address in register 5
     let into_text = Recording {
         code: &[
             (0x43, 0, 2, 3),
@@ -309,23 +317,32 @@ fn a_program_copies_a_file_that_is_handed_to_it(rt: HostRuntime) -> Result<(), F
     Ok(())
 }
 
+/// A recording with an input and two files that can be opened.
+const WITH_FILES: [&str; 10] = [
+    "record", "-o", "t", "-in", "i", "-file", "f", "-file", "g", "p",
+];
+
+/// A shelf with an object, an older trace, and three files of so many bytes.
+fn shelf_with_files(alloc: Global, object: &[u8], size: usize) -> Result<MemShelf, Fail> {
+    let mut bytes = Vec::new(alloc);
+    bytes.resize(size, 0)?;
+    let mut shelf = MemShelf::new(alloc);
+    shelf.add("p", object)?;
+    shelf.add("t", b"old")?;
+    for name in ["i", "f", "g"] {
+        shelf.add(name, bytes.as_slice())?;
+    }
+    Ok(shelf)
+}
+
 #[test]
-fn files_of_a_recording_have_limits_and_their_order(rt: HostRuntime) -> Result<(), Fail> {
-    let words = [
-        "record", "-o", "t", "-in", "i", "-file", "f", "-file", "g", "p",
-    ];
-    let mut longest = Vec::new(rt.alloc());
-    longest.resize(16_777_216, 0)?;
+fn the_first_file_that_is_too_long_is_told(rt: HostRuntime) -> Result<(), Fail> {
+    let mut shelf = shelf_with_files(rt.alloc(), &P1, 16_777_216)?;
+    let ran = perform(rt.alloc(), &WITH_FILES, &mut shelf)?;
+    assert!(rt; is_ending(&ran.ending, Expected::Exit(7)));
     let mut longer = Vec::new(rt.alloc());
     longer.resize(16_777_217, 0)?;
-    let mut shelf = MemShelf::new(rt.alloc());
-    shelf.add("p", &P1)?;
-    for name in ["i", "f", "g"] {
-        shelf.add(name, longest.as_slice())?;
-    }
-    let ran = perform(rt.alloc(), &words, &mut shelf)?;
-    assert!(rt; is_ending(&ran.ending, Expected::Exit(7)));
-    // the first that is too long is told, and the object's bytes are judged last
+    // the object's bytes are judged after all loads
     shelf.add("p", &P1[..139])?;
     shelf.add("t", b"old")?;
     for (name, line) in [
@@ -334,20 +351,23 @@ fn files_of_a_recording_have_limits_and_their_order(rt: HostRuntime) -> Result<(
         ("i", b"pisa: too-long i\n"),
     ] {
         shelf.add(name, longer.as_slice())?;
-        let ran = perform(rt.alloc(), &words, &mut shelf)?;
+        let ran = perform(rt.alloc(), &WITH_FILES, &mut shelf)?;
         assert_eq!(rt; ran.ending.status(), 11);
         assert!(rt; matches!(&ran.ending, Ending::TooLong { name: told } if told.as_str() == name));
         assert!(rt; ran.stat.bytes() == line);
         assert!(rt; shelf.bytes("t") == Some(b"old".as_slice()));
     }
-    for name in ["i", "f", "g"] {
-        shelf.add(name, b"")?;
-    }
-    let ran = perform(rt.alloc(), &words, &mut shelf)?;
+    Ok(())
+}
+
+#[test]
+fn a_refused_object_starts_no_trace(rt: HostRuntime) -> Result<(), Fail> {
+    let mut shelf = shelf_with_files(rt.alloc(), &P1[..139], 1)?;
+    let ran = perform(rt.alloc(), &WITH_FILES, &mut shelf)?;
     assert_eq!(rt; ran.ending.status(), 2);
     assert!(rt; ran.stat.bytes() == b"pisa: object 139 Short\n".as_slice());
     assert!(rt; shelf.bytes("t") == Some(b"old".as_slice()));
-    // a file that isn't there
+    // a file that isn't there is told before
     let words = ["record", "-o", "t", "-file", "missing", "p"];
     let ran = perform(rt.alloc(), &words, &mut shelf)?;
     assert_eq!(rt; ran.ending.status(), 5);
