@@ -1,5 +1,5 @@
 -- What an observer promises, and what a run that is observed does.
-use Rattle.std.specs.Prelude.{◌≡◌, ◌-◌, ◌<◌, ◌≤◌, ℕ, List, Result, Ok, Err}
+use Rattle.std.specs.Prelude.{◌≡◌, ◌≢◌, ◌-◌, ◌<◌, ◌≤◌, ℕ, List, Result, Ok, Err}
 use Rattle.ss_base.specs.Outside.{Rose}
 use Rattle.event_trace.specs.declared.trace.Trace.{Trace}
 use Rattle.sim_safe.specs.declared.observer.Meaning.{Meaning}
@@ -27,6 +27,12 @@ SawCounts means before now (Err f) = Faulted (means f) before now
 abbrev pub Saw : {S T F : Type 0} → (S → List Item → S → Type 0) → (S → List Item → S → Type 0) → S → List Item → S → Result T F → Type 0
 Saw took cut start h now (Ok _) = took start h now
 Saw took cut start h now (Err f) = cut start h now
+
+-- after a call of an observer that takes no memory: it takes none from now on, and a fault doesn't mean
+-- memory
+abbrev pub SawWithoutMemory : {S T F : Type 0} → (S → Type 0) → (F → Meaning) → S → Result T F → Type 0
+SawWithoutMemory takes_none means now (Ok _) = takes_none now
+SawWithoutMemory takes_none means now (Err f) = takes_none now × (means f ≢ meaning.Memory)
 
 -- the counts after a run
 abbrev pub RunCounts : {T F : Type 0} → (F → Meaning) → ℕ × ℕ → ℕ × ℕ → Result T (RunFault F) → Type 0

@@ -2,7 +2,7 @@
 ghost use Rattle.std.specs.Prelude.{◌≡◌, ◌+◌, ◌^◌, ◌<◌, ℕ, List, [], ◌∷◌};
 ghost use Rattle.sim_safe.specs.declared.observer.Meaning.{Meaning};
 ghost use Rattle.sim_safe.specs.Record.{Item, IsRunTrace, item_of};
-ghost use Rattle.sim_safe.specs.Observed.{SawCounts, Saw, RunCounts, RunTook, RunState};
+ghost use Rattle.sim_safe.specs.Observed.{SawCounts, Saw, SawWithoutMemory, RunCounts, RunTook, RunState};
 ghost use Rattle.sim_safe.specs.Advance.{AdvanceCounts, AdvanceState, AdvanceTook};
 ghost use Rattle.sim_safe.specs.State.{state_of};
 
@@ -39,11 +39,16 @@ pub trait Observer {
     /// What a fault comes from.
     ghost means: { Self.Fault → Meaning };
 
+    /// It takes no memory, now and from now on: no call fails with a fault that means memory. An
+    /// observer that doesn't say may take some at each call.
+    ghost takes_no_memory: { Self → Type 0 } = { λ _. ⊥ };
+
     /// Takes the record of an instruction that was done over a trace.
     fn saw(&mut self, r: &CommitRecord, trace: &Trace) -> Result<(), Self::Fault>
         requires { IsRunTrace trace.now }
         ensures took { (start : Self) (h : List Item) → took start h self.old → Saw took cut start (item_of trace.now r.now ∷ h) self.new result }
-        ensures count { SawCounts means (faults self.old) (faults self.new) result };
+        ensures count { SawCounts means (faults self.old) (faults self.new) result }
+        ensures memory { takes_no_memory self.old → SawWithoutMemory takes_no_memory means self.new result };
 
     /// A value that has taken nothing is as it was.
     ghost took_none: { (o : Self) → took o [] o };
