@@ -5,7 +5,7 @@ use Rattle.pisa_isa.specs.declared.instr.Op.{Op}
 use Rattle.pisa_isa.specs.declared.instr.Op.TheVariants as op
 use Rattle.pisa_isa.specs.declared.instr.Instr.{Instr}
 use Rattle.pisa_isa.specs.Classes.{is_float_op, operands_of}
-use Rattle.pisa_isa.specs.Coding.{all_ops}
+use Rattle.pisa_isa.specs.Table.{all_ops}
 use Rattle.pisa_isa.specs.Texts.{name_of}
 use Rattle.pisa_asm.specs.declared.fault.TextWhy.{TextWhy}
 use Rattle.pisa_asm.specs.declared.fault.TextWhy.TheVariants as why

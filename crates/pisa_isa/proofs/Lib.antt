@@ -1,1 +1,3 @@
 pub mod LookupTable
+pub mod Rows
+pub mod TargetWords

@@ -1,33 +1,16 @@
 -- The coding: which two words stand for which instruction, and why others stand for none.
-use Rattle.std.specs.Prelude.{◌≡◌, ◌≢◌, ◌+◌, ◌*◌, ◌-◌, ◌/◌, ◌%◌, ◌^◌, ◌≤◌, ◌<◌, ◌&&◌, ℕ, List, [], ◌∷◌, find, Bool, true, false, Option, Some, None, nat_le, nat_eq, if◌then◌else◌, Result, Ok, Err}
+use Rattle.std.specs.Prelude.{◌≡◌, ◌≢◌, ◌+◌, ◌*◌, ◌-◌, ◌/◌, ◌%◌, ◌^◌, ◌≤◌, ◌<◌, ◌&&◌, ℕ, find, Bool, true, false, Option, Some, None, nat_le, nat_eq, if◌then◌else◌, Result, Ok, Err}
 use Rattle.pisa_isa.specs.declared.instr.Op.{Op}
-use Rattle.pisa_isa.specs.declared.instr.Op.TheVariants as op
 use Rattle.pisa_isa.specs.declared.instr.Instr.{Instr}
 use Rattle.pisa_isa.specs.declared.instr.Illegal.{Illegal}
 use Rattle.pisa_isa.specs.declared.instr.IllegalWhy.{IllegalWhy}
 use Rattle.pisa_isa.specs.declared.instr.IllegalWhy.TheVariants as why
-use Rattle.pisa_isa.specs.Table.{row_of}
+use Rattle.pisa_isa.specs.Table.{all_ops, row_of}
 use Rattle.pisa_isa.specs.Fields.{uses, highest_rt}
 
 -- the number of an operation: its opcode
 abbrev pub number_of : Op → ℕ
 number_of o = (row_of o).number
-
--- each operation, once
-abbrev pub all_ops : List Op
-all_ops =
-    op.Nop ∷ op.J ∷ op.Jal ∷ op.Jr ∷ op.Jalr ∷ op.Beq ∷ op.Bne ∷ op.Blez ∷ op.Bgtz ∷ op.Bltz ∷
-    op.Bgez ∷ op.Bc1f ∷ op.Bc1t ∷ op.Lb ∷ op.Lbu ∷ op.Lh ∷ op.Lhu ∷ op.Lw ∷ op.Dlw ∷ op.LS ∷ op.LD ∷
-    op.Lwl ∷ op.Lwr ∷ op.Sb ∷ op.Sh ∷ op.Sw ∷ op.Dsw ∷ op.SS ∷ op.SD ∷ op.Dsz ∷ op.Swl ∷ op.Swr ∷
-    op.Add ∷ op.Addi ∷ op.Addu ∷ op.Addiu ∷ op.Sub ∷ op.Subu ∷ op.Mult ∷ op.Multu ∷ op.Div ∷
-    op.Divu ∷ op.Mfhi ∷ op.Mthi ∷ op.Mflo ∷ op.Mtlo ∷ op.And ∷ op.Andi ∷ op.Or ∷ op.Ori ∷ op.Xor ∷
-    op.Xori ∷ op.Nor ∷ op.Sll ∷ op.Sllv ∷ op.Srl ∷ op.Srlv ∷ op.Sra ∷ op.Srav ∷ op.Slt ∷ op.Slti ∷
-    op.Sltu ∷ op.Sltiu ∷ op.AddS ∷ op.AddD ∷ op.SubS ∷ op.SubD ∷ op.MulS ∷ op.MulD ∷ op.DivS ∷
-    op.DivD ∷ op.AbsS ∷ op.AbsD ∷ op.FmovS ∷ op.FmovD ∷ op.FnegS ∷ op.FnegD ∷ op.CvtSD ∷ op.CvtSW ∷
-    op.CvtDS ∷ op.CvtDW ∷ op.CvtWS ∷ op.CvtWD ∷ op.CEqS ∷ op.CEqD ∷ op.CLtS ∷ op.CLtD ∷ op.CLeS ∷
-    op.CLeD ∷ op.FsqrtS ∷ op.FsqrtD ∷ op.Syscall ∷ op.Break ∷ op.Lui ∷ op.Mfc1 ∷ op.Dmfc1 ∷
-    op.Cfc1 ∷ op.Mtc1 ∷ op.Dmtc1 ∷ op.Ctc1 ∷ op.LbRr ∷ op.LbuRr ∷ op.LhRr ∷ op.LhuRr ∷ op.LwRr ∷
-    op.LSRr ∷ op.SbRr ∷ op.ShRr ∷ op.SwRr ∷ op.DlwRr ∷ op.LDRr ∷ op.DswRr ∷ op.DszRr ∷ []
 
 -- the operation with this number
 unfoldable pub operation_of : ℕ → Option Op

@@ -1,6 +1,7 @@
 pub mod Table
 pub mod Fields
 pub mod Coding
+pub mod Targets
 pub mod Texts
 pub mod Classes
 pub mod Places

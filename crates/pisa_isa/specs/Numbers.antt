@@ -3,7 +3,8 @@ use Rattle.std.proofs.Common.{◌≡◌, ◌<◌, ◌≤◌, ℕ, List, [], ◌�
 use Rattle.std.proofs.lemmas.Bool.{eqb-true}
 use Rattle.pisa_isa.specs.declared.instr.Op.{Op}
 use Rattle.pisa_isa.specs.declared.instr.Op.TheVariants as op
-use Rattle.pisa_isa.specs.Coding.{number_of, operation_of, all_ops}
+use Rattle.pisa_isa.specs.Table.{all_ops}
+use Rattle.pisa_isa.specs.Coding.{number_of, operation_of}
 use Rattle.pisa_isa.specs.Texts.{name_of}
 
 -- an option that is no value is None

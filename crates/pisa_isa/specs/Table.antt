@@ -1,6 +1,6 @@
 -- The table of instructions: for each operation its printed name, its opcode, its operands, the
 -- functional unit that it takes, and what it does with its operands.
-use Rattle.std.specs.Prelude.{◌≡◌, ℕ, List, codes}
+use Rattle.std.specs.Prelude.{◌≡◌, ℕ, List, [], ◌∷◌, codes}
 use Rattle.pisa_isa.specs.declared.instr.Op.{Op}
 use Rattle.pisa_isa.specs.declared.instr.Op.TheVariants as op
 use Rattle.pisa_isa.specs.declared.table.Operands.{Operands}
@@ -136,6 +136,26 @@ row_of op.DlwRr = line (codes "DLW_RR") 0xce form.RtIndexed unit.Alu kind.LoadPa
 row_of op.LDRr = line (codes "L_D_RR") 0xcf form.Empty unit.Free kind.Float
 row_of op.DswRr = line (codes "DSW_RR") 0xd0 form.RtIndexed unit.Alu kind.StorePair
 row_of op.DszRr = line (codes "DSZ_RR") 0xd1 form.Indexed unit.Alu kind.StoreZero
+
+-- each operation, once
+abbrev pub all_ops : List Op
+all_ops =
+    op.Nop ∷ op.J ∷ op.Jal ∷ op.Jr ∷ op.Jalr ∷ op.Beq ∷ op.Bne ∷ op.Blez ∷ op.Bgtz ∷ op.Bltz ∷
+    op.Bgez ∷ op.Bc1f ∷ op.Bc1t ∷ op.Lb ∷ op.Lbu ∷ op.Lh ∷ op.Lhu ∷ op.Lw ∷ op.Dlw ∷ op.LS ∷ op.LD ∷
+    op.Lwl ∷ op.Lwr ∷ op.Sb ∷ op.Sh ∷ op.Sw ∷ op.Dsw ∷ op.SS ∷ op.SD ∷ op.Dsz ∷ op.Swl ∷ op.Swr ∷
+    op.Add ∷ op.Addi ∷ op.Addu ∷ op.Addiu ∷ op.Sub ∷ op.Subu ∷ op.Mult ∷ op.Multu ∷ op.Div ∷
+    op.Divu ∷ op.Mfhi ∷ op.Mthi ∷ op.Mflo ∷ op.Mtlo ∷ op.And ∷ op.Andi ∷ op.Or ∷ op.Ori ∷ op.Xor ∷
+    op.Xori ∷ op.Nor ∷ op.Sll ∷ op.Sllv ∷ op.Srl ∷ op.Srlv ∷ op.Sra ∷ op.Srav ∷ op.Slt ∷ op.Slti ∷
+    op.Sltu ∷ op.Sltiu ∷ op.AddS ∷ op.AddD ∷ op.SubS ∷ op.SubD ∷ op.MulS ∷ op.MulD ∷ op.DivS ∷
+    op.DivD ∷ op.AbsS ∷ op.AbsD ∷ op.FmovS ∷ op.FmovD ∷ op.FnegS ∷ op.FnegD ∷ op.CvtSD ∷ op.CvtSW ∷
+    op.CvtDS ∷ op.CvtDW ∷ op.CvtWS ∷ op.CvtWD ∷ op.CEqS ∷ op.CEqD ∷ op.CLtS ∷ op.CLtD ∷ op.CLeS ∷
+    op.CLeD ∷ op.FsqrtS ∷ op.FsqrtD ∷ op.Syscall ∷ op.Break ∷ op.Lui ∷ op.Mfc1 ∷ op.Dmfc1 ∷
+    op.Cfc1 ∷ op.Mtc1 ∷ op.Dmtc1 ∷ op.Ctc1 ∷ op.LbRr ∷ op.LbuRr ∷ op.LhRr ∷ op.LhuRr ∷ op.LwRr ∷
+    op.LSRr ∷ op.SbRr ∷ op.ShRr ∷ op.SwRr ∷ op.DlwRr ∷ op.LDRr ∷ op.DswRr ∷ op.DszRr ∷ []
+
+-- what a row of the code's table says
+abbrev pub said : CodeRow → Row
+said held = line held.name.now held.number held.operands held.unit held.kind
 
 -- a row of the code's table says what this row says
 pub record IsRow (held : CodeRow) (said : Row) : Type 0 where

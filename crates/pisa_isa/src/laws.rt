@@ -1,11 +1,13 @@
 //! Laws of the coding and of the places, each carried by a call whose contract is the law.
-ghost use Rattle.std.specs.Prelude.{◌≡◌, ◌<◌, ◌≤◌, ◌↔◌, ℕ, List, [], Some, None, All, nat_eq, if◌then◌else◌};
+ghost use Rattle.std.specs.Prelude.{◌≡◌, ◌+◌, ◌*◌, ◌%◌, ◌^◌, ◌<◌, ◌≤◌, ◌↔◌, ℕ, List, [], Some, None, All, nat_eq, if◌then◌else◌, bit_and, bit_or};
+ghost use Rattle.std.specs.Int.{cast_signed, cast_unsigned, w16, w32};
 ghost use Rattle.std.specs.List.{list_any};
 ghost use Rattle.pisa_isa.specs.declared.instr.Op.{Op};
 ghost use Rattle.pisa_isa.specs.declared.instr.Op.TheVariants as op;
 ghost use Rattle.pisa_isa.specs.declared.instr.Instr.{Instr};
 ghost use Rattle.pisa_isa.specs.declared.instr.IllegalWhy.{IllegalWhy};
 ghost use Rattle.pisa_isa.specs.Coding.{Codes, IsWellFormed, Reason, decoded, number_of, operation_of, second_word};
+ghost use Rattle.pisa_isa.specs.Targets.{branch_target, jump_target};
 ghost use Rattle.pisa_isa.specs.Places.{IsNamed, registers, times_listed, reads_main_of, reads_second_of, writes_of};
 
 /// Two words code at most one instruction, and they code it exactly where `decode` answers it.
@@ -64,4 +66,14 @@ pub fn system_calls_have_no_places()
     ensures main { (i : Instr) → i.op ≡ op.Syscall → reads_main_of i ≡ [] }
     ensures second { (i : Instr) → i.op ≡ op.Syscall → reads_second_of i ≡ [] }
     ensures writes { (i : Instr) → i.op ≡ op.Syscall → writes_of i ≡ [] }
+{}
+
+/// In terms of words: a branch adds four times its immediate value, extended with its sign, to the
+/// address behind it; a jump joins the upper four bits of its own address with four times its target.
+#[tactic(auto, using(crate::proofs::TargetWords::branch_words, crate::proofs::TargetWords::jump_words))]
+pub fn targets_are_words()
+    ensures branch { (pc imm : ℕ) → pc < 2 ^ 32 → imm < 2 ^ 16
+        → branch_target pc imm ≡ (pc + 8 + 4 * cast_unsigned w32 (cast_signed w16 imm)) % 2 ^ 32 }
+    ensures jump { (pc target : ℕ) → pc < 2 ^ 32 → target < 2 ^ 26
+        → jump_target pc target ≡ bit_or (bit_and pc 0xf0000000) (4 * target) }
 {}

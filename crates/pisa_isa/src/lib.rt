@@ -15,6 +15,7 @@ mod laws;
 mod lookup;
 mod places;
 mod table;
+mod targets;
 
 pub use classes::{
     AccessKind, ControlKind, UnitClass, access, control, is_float, name, number, operands, unit,
@@ -23,10 +24,11 @@ pub use coding::{decode, encode};
 pub use instr::{Illegal, IllegalWhy, Instr, Op};
 pub use laws::{
     coding_is_exact, encoding_is_least, opcodes_are_unique, places_are_named, refusals_are_exact,
-    registers_are_listed_once, system_calls_have_no_places,
+    registers_are_listed_once, system_calls_have_no_places, targets_are_words,
 };
 pub use places::{Place, reads_main, reads_second, writes};
 pub use table::Operands;
+pub use targets::{branch_target, jump_target};
 
 #[cfg(test)]
 mod tests;

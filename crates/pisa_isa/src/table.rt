@@ -1,6 +1,6 @@
 //! The table of instructions: a row for each operation.
-ghost use Rattle.std.specs.Prelude.{◌≡◌};
-ghost use Rattle.pisa_isa.specs.Table.{IsRow, row_of};
+ghost use Rattle.std.specs.Prelude.{◌≡◌, map};
+ghost use Rattle.pisa_isa.specs.Table.{IsRow, all_ops, row_of, said};
 
 use crate::classes::UnitClass::{self, Alu, Divide, Free, Multiply};
 use crate::instr::Op;
@@ -95,7 +95,7 @@ pub enum Kind {
     Float,
 }
 
-/// A row of the table.
+/// What the table has of an operation.
 #[derive(Clone, Copy, Debug)]
 pub struct Row {
     /// The printed name.
@@ -110,143 +110,148 @@ pub struct Row {
     pub kind: Kind,
 }
 
-impl Row {
-    /// The row of an operation.
-    pub fn of(op: Op) -> Row
-        ensures { IsRow result (row_of op) }
-    {
-        let (name, number, operands, unit, kind) = columns(op);
+/// A row of the table: name, number, operands, unit, kind.
+macro_rules! row {
+    ($name:literal, $number:literal, $operands:ident, $unit:ident, $kind:ident) => {
         Row {
-            name,
-            number,
-            operands,
-            unit,
-            kind,
+            name: $name,
+            number: $number,
+            operands: $operands,
+            unit: $unit,
+            kind: $kind,
         }
-    }
+    };
 }
 
-/// The table: name, number, operands, unit, kind.
-fn columns(op: Op) -> (&'static str, u16, Operands, UnitClass, Kind)
-    ensures name { result.0.now ≡ (row_of op).name }
-    ensures number { result.1 ≡ (row_of op).number }
-    ensures operands { result.2 ≡ (row_of op).operands }
-    ensures unit { result.3 ≡ (row_of op).unit }
-    ensures kind { result.4 ≡ (row_of op).kind }
+/// The table, in the order of the operations.
+static ROWS: [Row; 113] = [
+    row!("NOP", 0x00, Empty, Free, Plain),
+    row!("J", 0x01, Target, Free, Jump),
+    row!("JAL", 0x02, Target, Free, Call),
+    row!("JR", 0x03, Rs, Alu, JumpRegister),
+    row!("JALR", 0x04, RdRs, Alu, Call),
+    row!("BEQ", 0x05, RsRtBranch, Alu, Branch),
+    row!("BNE", 0x06, RsRtBranch, Alu, Branch),
+    row!("BLEZ", 0x07, RsBranch, Alu, Branch),
+    row!("BGTZ", 0x08, RsBranch, Alu, Branch),
+    row!("BLTZ", 0x09, RsBranch, Alu, Branch),
+    row!("BGEZ", 0x0a, RsBranch, Alu, Branch),
+    row!("BC1F", 0x0b, Empty, Free, Float),
+    row!("BC1T", 0x0c, Empty, Free, Float),
+    row!("LB", 0x20, RtOffset, Alu, Load),
+    row!("LBU", 0x22, RtOffset, Alu, Load),
+    row!("LH", 0x24, RtOffset, Alu, Load),
+    row!("LHU", 0x26, RtOffset, Alu, Load),
+    row!("LW", 0x28, RtOffset, Alu, Load),
+    row!("DLW", 0x29, RtOffset, Alu, LoadPair),
+    row!("L_S", 0x2a, Empty, Free, Float),
+    row!("L_D", 0x2b, Empty, Free, Float),
+    row!("LWL", 0x2c, RtOffset, Alu, LoadMerge),
+    row!("LWR", 0x2d, RtOffset, Alu, LoadMerge),
+    row!("SB", 0x30, RtOffset, Alu, Store),
+    row!("SH", 0x32, RtOffset, Alu, Store),
+    row!("SW", 0x34, RtOffset, Alu, Store),
+    row!("DSW", 0x35, RtOffset, Alu, StorePair),
+    row!("S_S", 0x36, Empty, Free, Float),
+    row!("S_D", 0x37, Empty, Free, Float),
+    row!("DSZ", 0x38, Offset, Alu, StoreZero),
+    row!("SWL", 0x39, RtOffset, Alu, Store),
+    row!("SWR", 0x3a, RtOffset, Alu, Store),
+    row!("ADD", 0x40, RdRsRt, Alu, Compute),
+    row!("ADDI", 0x41, RtRsSigned, Alu, Compute),
+    row!("ADDU", 0x42, RdRsRt, Alu, Compute),
+    row!("ADDIU", 0x43, RtRsSigned, Alu, Compute),
+    row!("SUB", 0x44, RdRsRt, Alu, Compute),
+    row!("SUBU", 0x45, RdRsRt, Alu, Compute),
+    row!("MULT", 0x46, RsRt, Multiply, ToHiLo),
+    row!("MULTU", 0x47, RsRt, Multiply, ToHiLo),
+    row!("DIV", 0x48, RsRt, Divide, ToHiLo),
+    row!("DIVU", 0x49, RsRt, Divide, ToHiLo),
+    row!("MFHI", 0x4a, Rd, Alu, FromHi),
+    row!("MTHI", 0x4b, Rs, Alu, ToHi),
+    row!("MFLO", 0x4c, Rd, Alu, FromLo),
+    row!("MTLO", 0x4d, Rs, Alu, ToLo),
+    row!("AND", 0x4e, RdRsRt, Alu, Compute),
+    row!("ANDI", 0x4f, RtRsUnsigned, Alu, Compute),
+    row!("OR", 0x50, RdRsRt, Alu, Compute),
+    row!("ORI", 0x51, RtRsUnsigned, Alu, Compute),
+    row!("XOR", 0x52, RdRsRt, Alu, Compute),
+    row!("XORI", 0x53, RtRsUnsigned, Alu, Compute),
+    row!("NOR", 0x54, RdRsRt, Alu, Compute),
+    row!("SLL", 0x55, RdRtShift, Alu, Compute),
+    row!("SLLV", 0x56, RdRtRs, Alu, Compute),
+    row!("SRL", 0x57, RdRtShift, Alu, Compute),
+    row!("SRLV", 0x58, RdRtRs, Alu, Compute),
+    row!("SRA", 0x59, RdRtShift, Alu, Compute),
+    row!("SRAV", 0x5a, RdRtRs, Alu, Compute),
+    row!("SLT", 0x5b, RdRsRt, Alu, Compute),
+    row!("SLTI", 0x5c, RtRsSigned, Alu, Compute),
+    row!("SLTU", 0x5d, RdRsRt, Alu, Compute),
+    row!("SLTIU", 0x5e, RtRsSigned, Alu, Compute),
+    row!("ADD_S", 0x70, Empty, Free, Float),
+    row!("ADD_D", 0x71, Empty, Free, Float),
+    row!("SUB_S", 0x72, Empty, Free, Float),
+    row!("SUB_D", 0x73, Empty, Free, Float),
+    row!("MUL_S", 0x74, Empty, Free, Float),
+    row!("MUL_D", 0x75, Empty, Free, Float),
+    row!("DIV_S", 0x76, Empty, Free, Float),
+    row!("DIV_D", 0x77, Empty, Free, Float),
+    row!("ABS_S", 0x78, Empty, Free, Float),
+    row!("ABS_D", 0x79, Empty, Free, Float),
+    row!("FMOV_S", 0x7a, Empty, Free, Float),
+    row!("FMOV_D", 0x7b, Empty, Free, Float),
+    row!("FNEG_S", 0x7c, Empty, Free, Float),
+    row!("FNEG_D", 0x7d, Empty, Free, Float),
+    row!("CVT_S_D", 0x80, Empty, Free, Float),
+    row!("CVT_S_W", 0x81, Empty, Free, Float),
+    row!("CVT_D_S", 0x82, Empty, Free, Float),
+    row!("CVT_D_W", 0x83, Empty, Free, Float),
+    row!("CVT_W_S", 0x84, Empty, Free, Float),
+    row!("CVT_W_D", 0x85, Empty, Free, Float),
+    row!("C_EQ_S", 0x90, Empty, Free, Float),
+    row!("C_EQ_D", 0x91, Empty, Free, Float),
+    row!("C_LT_S", 0x92, Empty, Free, Float),
+    row!("C_LT_D", 0x93, Empty, Free, Float),
+    row!("C_LE_S", 0x94, Empty, Free, Float),
+    row!("C_LE_D", 0x95, Empty, Free, Float),
+    row!("FSQRT_S", 0x96, Empty, Free, Float),
+    row!("FSQRT_D", 0x97, Empty, Free, Float),
+    row!("SYSCALL", 0xa0, Empty, Free, Plain),
+    row!("BREAK", 0xa1, Empty, Free, Plain),
+    row!("LUI", 0xa2, RtUnsigned, Alu, Compute),
+    row!("MFC1", 0xa3, Empty, Free, Float),
+    row!("DMFC1", 0xa4, Empty, Free, Float),
+    row!("CFC1", 0xa5, Empty, Free, Float),
+    row!("MTC1", 0xa6, Empty, Free, Float),
+    row!("DMTC1", 0xa7, Empty, Free, Float),
+    row!("CTC1", 0xa8, Empty, Free, Float),
+    row!("LB_RR", 0xc0, RtIndexed, Alu, Load),
+    row!("LBU_RR", 0xc1, RtIndexed, Alu, Load),
+    row!("LH_RR", 0xc2, RtIndexed, Alu, Load),
+    row!("LHU_RR", 0xc3, RtIndexed, Alu, Load),
+    row!("LW_RR", 0xc4, RtIndexed, Alu, Load),
+    row!("L_S_RR", 0xc5, Empty, Free, Float),
+    row!("SB_RR", 0xc6, RtIndexed, Alu, Store),
+    row!("SH_RR", 0xc7, RtIndexed, Alu, Store),
+    row!("SW_RR", 0xc8, RtIndexed, Alu, Store),
+    row!("DLW_RR", 0xce, RtIndexed, Alu, LoadPair),
+    row!("L_D_RR", 0xcf, Empty, Free, Float),
+    row!("DSW_RR", 0xd0, RtIndexed, Alu, StorePair),
+    row!("DSZ_RR", 0xd1, Indexed, Alu, StoreZero),
+];
+
+/// The rows.
+fn rows() -> &'static [Row; 113]
+    ensures { map said result.now ≡ map row_of all_ops }
 {
-    match op {
-        Op::Nop => ("NOP", 0x00, Empty, Free, Plain),
-        Op::J => ("J", 0x01, Target, Free, Jump),
-        Op::Jal => ("JAL", 0x02, Target, Free, Call),
-        Op::Jr => ("JR", 0x03, Rs, Alu, JumpRegister),
-        Op::Jalr => ("JALR", 0x04, RdRs, Alu, Call),
-        Op::Beq => ("BEQ", 0x05, RsRtBranch, Alu, Branch),
-        Op::Bne => ("BNE", 0x06, RsRtBranch, Alu, Branch),
-        Op::Blez => ("BLEZ", 0x07, RsBranch, Alu, Branch),
-        Op::Bgtz => ("BGTZ", 0x08, RsBranch, Alu, Branch),
-        Op::Bltz => ("BLTZ", 0x09, RsBranch, Alu, Branch),
-        Op::Bgez => ("BGEZ", 0x0a, RsBranch, Alu, Branch),
-        Op::Bc1f => ("BC1F", 0x0b, Empty, Free, Float),
-        Op::Bc1t => ("BC1T", 0x0c, Empty, Free, Float),
-        Op::Lb => ("LB", 0x20, RtOffset, Alu, Load),
-        Op::Lbu => ("LBU", 0x22, RtOffset, Alu, Load),
-        Op::Lh => ("LH", 0x24, RtOffset, Alu, Load),
-        Op::Lhu => ("LHU", 0x26, RtOffset, Alu, Load),
-        Op::Lw => ("LW", 0x28, RtOffset, Alu, Load),
-        Op::Dlw => ("DLW", 0x29, RtOffset, Alu, LoadPair),
-        Op::LS => ("L_S", 0x2a, Empty, Free, Float),
-        Op::LD => ("L_D", 0x2b, Empty, Free, Float),
-        Op::Lwl => ("LWL", 0x2c, RtOffset, Alu, LoadMerge),
-        Op::Lwr => ("LWR", 0x2d, RtOffset, Alu, LoadMerge),
-        Op::Sb => ("SB", 0x30, RtOffset, Alu, Store),
-        Op::Sh => ("SH", 0x32, RtOffset, Alu, Store),
-        Op::Sw => ("SW", 0x34, RtOffset, Alu, Store),
-        Op::Dsw => ("DSW", 0x35, RtOffset, Alu, StorePair),
-        Op::SS => ("S_S", 0x36, Empty, Free, Float),
-        Op::SD => ("S_D", 0x37, Empty, Free, Float),
-        Op::Dsz => ("DSZ", 0x38, Offset, Alu, StoreZero),
-        Op::Swl => ("SWL", 0x39, RtOffset, Alu, Store),
-        Op::Swr => ("SWR", 0x3a, RtOffset, Alu, Store),
-        Op::Add => ("ADD", 0x40, RdRsRt, Alu, Compute),
-        Op::Addi => ("ADDI", 0x41, RtRsSigned, Alu, Compute),
-        Op::Addu => ("ADDU", 0x42, RdRsRt, Alu, Compute),
-        Op::Addiu => ("ADDIU", 0x43, RtRsSigned, Alu, Compute),
-        Op::Sub => ("SUB", 0x44, RdRsRt, Alu, Compute),
-        Op::Subu => ("SUBU", 0x45, RdRsRt, Alu, Compute),
-        Op::Mult => ("MULT", 0x46, RsRt, Multiply, ToHiLo),
-        Op::Multu => ("MULTU", 0x47, RsRt, Multiply, ToHiLo),
-        Op::Div => ("DIV", 0x48, RsRt, Divide, ToHiLo),
-        Op::Divu => ("DIVU", 0x49, RsRt, Divide, ToHiLo),
-        Op::Mfhi => ("MFHI", 0x4a, Rd, Alu, FromHi),
-        Op::Mthi => ("MTHI", 0x4b, Rs, Alu, ToHi),
-        Op::Mflo => ("MFLO", 0x4c, Rd, Alu, FromLo),
-        Op::Mtlo => ("MTLO", 0x4d, Rs, Alu, ToLo),
-        Op::And => ("AND", 0x4e, RdRsRt, Alu, Compute),
-        Op::Andi => ("ANDI", 0x4f, RtRsUnsigned, Alu, Compute),
-        Op::Or => ("OR", 0x50, RdRsRt, Alu, Compute),
-        Op::Ori => ("ORI", 0x51, RtRsUnsigned, Alu, Compute),
-        Op::Xor => ("XOR", 0x52, RdRsRt, Alu, Compute),
-        Op::Xori => ("XORI", 0x53, RtRsUnsigned, Alu, Compute),
-        Op::Nor => ("NOR", 0x54, RdRsRt, Alu, Compute),
-        Op::Sll => ("SLL", 0x55, RdRtShift, Alu, Compute),
-        Op::Sllv => ("SLLV", 0x56, RdRtRs, Alu, Compute),
-        Op::Srl => ("SRL", 0x57, RdRtShift, Alu, Compute),
-        Op::Srlv => ("SRLV", 0x58, RdRtRs, Alu, Compute),
-        Op::Sra => ("SRA", 0x59, RdRtShift, Alu, Compute),
-        Op::Srav => ("SRAV", 0x5a, RdRtRs, Alu, Compute),
-        Op::Slt => ("SLT", 0x5b, RdRsRt, Alu, Compute),
-        Op::Slti => ("SLTI", 0x5c, RtRsSigned, Alu, Compute),
-        Op::Sltu => ("SLTU", 0x5d, RdRsRt, Alu, Compute),
-        Op::Sltiu => ("SLTIU", 0x5e, RtRsSigned, Alu, Compute),
-        Op::AddS => ("ADD_S", 0x70, Empty, Free, Float),
-        Op::AddD => ("ADD_D", 0x71, Empty, Free, Float),
-        Op::SubS => ("SUB_S", 0x72, Empty, Free, Float),
-        Op::SubD => ("SUB_D", 0x73, Empty, Free, Float),
-        Op::MulS => ("MUL_S", 0x74, Empty, Free, Float),
-        Op::MulD => ("MUL_D", 0x75, Empty, Free, Float),
-        Op::DivS => ("DIV_S", 0x76, Empty, Free, Float),
-        Op::DivD => ("DIV_D", 0x77, Empty, Free, Float),
-        Op::AbsS => ("ABS_S", 0x78, Empty, Free, Float),
-        Op::AbsD => ("ABS_D", 0x79, Empty, Free, Float),
-        Op::FmovS => ("FMOV_S", 0x7a, Empty, Free, Float),
-        Op::FmovD => ("FMOV_D", 0x7b, Empty, Free, Float),
-        Op::FnegS => ("FNEG_S", 0x7c, Empty, Free, Float),
-        Op::FnegD => ("FNEG_D", 0x7d, Empty, Free, Float),
-        Op::CvtSD => ("CVT_S_D", 0x80, Empty, Free, Float),
-        Op::CvtSW => ("CVT_S_W", 0x81, Empty, Free, Float),
-        Op::CvtDS => ("CVT_D_S", 0x82, Empty, Free, Float),
-        Op::CvtDW => ("CVT_D_W", 0x83, Empty, Free, Float),
-        Op::CvtWS => ("CVT_W_S", 0x84, Empty, Free, Float),
-        Op::CvtWD => ("CVT_W_D", 0x85, Empty, Free, Float),
-        Op::CEqS => ("C_EQ_S", 0x90, Empty, Free, Float),
-        Op::CEqD => ("C_EQ_D", 0x91, Empty, Free, Float),
-        Op::CLtS => ("C_LT_S", 0x92, Empty, Free, Float),
-        Op::CLtD => ("C_LT_D", 0x93, Empty, Free, Float),
-        Op::CLeS => ("C_LE_S", 0x94, Empty, Free, Float),
-        Op::CLeD => ("C_LE_D", 0x95, Empty, Free, Float),
-        Op::FsqrtS => ("FSQRT_S", 0x96, Empty, Free, Float),
-        Op::FsqrtD => ("FSQRT_D", 0x97, Empty, Free, Float),
-        Op::Syscall => ("SYSCALL", 0xa0, Empty, Free, Plain),
-        Op::Break => ("BREAK", 0xa1, Empty, Free, Plain),
-        Op::Lui => ("LUI", 0xa2, RtUnsigned, Alu, Compute),
-        Op::Mfc1 => ("MFC1", 0xa3, Empty, Free, Float),
-        Op::Dmfc1 => ("DMFC1", 0xa4, Empty, Free, Float),
-        Op::Cfc1 => ("CFC1", 0xa5, Empty, Free, Float),
-        Op::Mtc1 => ("MTC1", 0xa6, Empty, Free, Float),
-        Op::Dmtc1 => ("DMTC1", 0xa7, Empty, Free, Float),
-        Op::Ctc1 => ("CTC1", 0xa8, Empty, Free, Float),
-        Op::LbRr => ("LB_RR", 0xc0, RtIndexed, Alu, Load),
-        Op::LbuRr => ("LBU_RR", 0xc1, RtIndexed, Alu, Load),
-        Op::LhRr => ("LH_RR", 0xc2, RtIndexed, Alu, Load),
-        Op::LhuRr => ("LHU_RR", 0xc3, RtIndexed, Alu, Load),
-        Op::LwRr => ("LW_RR", 0xc4, RtIndexed, Alu, Load),
-        Op::LSRr => ("L_S_RR", 0xc5, Empty, Free, Float),
-        Op::SbRr => ("SB_RR", 0xc6, RtIndexed, Alu, Store),
-        Op::ShRr => ("SH_RR", 0xc7, RtIndexed, Alu, Store),
-        Op::SwRr => ("SW_RR", 0xc8, RtIndexed, Alu, Store),
-        Op::DlwRr => ("DLW_RR", 0xce, RtIndexed, Alu, LoadPair),
-        Op::LDRr => ("L_D_RR", 0xcf, Empty, Free, Float),
-        Op::DswRr => ("DSW_RR", 0xd0, RtIndexed, Alu, StorePair),
-        Op::DszRr => ("DSZ_RR", 0xd1, Indexed, Alu, StoreZero),
+    &ROWS
+}
+
+impl Row {
+    /// The row of an operation.
+    pub fn of(op: Op) -> &'static Row
+        ensures { IsRow result.now (row_of op) }
+    {
+        &rows()[op as usize]
     }
 }

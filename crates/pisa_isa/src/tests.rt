@@ -2,10 +2,9 @@
 use crate::Place::{Hi, Lo, Reg};
 use crate::{
     AccessKind, ControlKind, Illegal, IllegalWhy, Instr, Op, Operands, Place, UnitClass, access,
-    control, decode, encode, is_float, name, number, operands, reads_main, reads_second, unit,
-    writes,
+    branch_target, control, decode, encode, is_float, jump_target, name, number, operands,
+    reads_main, reads_second, unit, writes,
 };
-use std::process::Abort;
 
 /// What is expected of some operations where the used fields are `rs` 3, `rt` 5, `rd` 9, `shamt` 7,
 /// `imm` 0x8001 and `target` 0x1234567.
@@ -521,46 +520,53 @@ fn instr(op: Op, case: &Case) -> Instr {
     }
 }
 
-fn check_coding(rt: &impl Abort, i: &Instr, case: &Case, opcode: u16) {
-    assert!(rt; i.well_formed(), "{i:?}");
+/// Whether an instruction is coded by these words, also where bits that say nothing are set.
+fn is_coded(i: &Instr, case: &Case, opcode: u16) -> bool {
     let first = opcode as u32;
-    assert_eq!(rt; encode(i), (first, case.second), "{i:?}");
-    assert_eq!(rt; decode(first, case.second), Ok(*i));
-    assert_eq!(rt;
-        decode(first | 0xbeef_0000, case.second | case.unused),
-        Ok(*i)
-    );
+    i.well_formed()
+        && encode(i) == (first, case.second)
+        && decode(first, case.second) == Ok(*i)
+        && decode(first | 0xbeef_0000, case.second | case.unused) == Ok(*i)
 }
 
-fn check_places(rt: &impl Abort, i: &Instr, case: &Case) {
-    assert!(rt; i.well_formed());
-    assert_eq!(rt; reads_main(i).as_slice(), case.main, "{i:?}");
-    assert_eq!(rt; reads_second(i).as_slice(), case.late, "{i:?}");
-    assert_eq!(rt; writes(i).as_slice(), case.written, "{i:?}");
+/// Whether these are the places of an instruction.
+fn has_places(i: &Instr, main: &[Place], late: &[Place], written: &[Place]) -> bool {
+    i.well_formed()
+        && reads_main(i).as_slice() == main
+        && reads_second(i).as_slice() == late
+        && writes(i).as_slice() == written
 }
 
-fn check_classes(rt: &impl Abort, i: &Instr, case: &Case, text: &str, opcode: u16) {
-    assert_eq!(rt; name(i.op).as_str(), text);
-    assert_eq!(rt; number(i.op), opcode, "{i:?}");
-    assert_eq!(rt; operands(i.op), case.operands, "{i:?}");
-    let classes = (unit(i.op), access(i.op), control(i));
-    assert_eq!(rt; classes, case.classes, "{i:?}");
-    assert_eq!(rt; is_float(i.op), case.float, "{i:?}");
+/// Whether an instruction has this name, this opcode and the classes of a case.
+fn is_classed(i: &Instr, case: &Case, text: &str, opcode: u16) -> bool {
+    name(i.op).as_str() == text
+        && number(i.op) == opcode
+        && operands(i.op) == case.operands
+        && (unit(i.op), access(i.op), control(i)) == case.classes
+        && is_float(i.op) == case.float
+}
+
+/// Whether an operation is what a case says.
+fn agrees(op: Op, text: &str, opcode: u16, case: &Case) -> bool {
+    let i = instr(op, case);
+    is_coded(&i, case, opcode)
+        && has_places(&i, case.main, case.late, case.written)
+        && is_classed(&i, case, text, opcode)
 }
 
 #[test]
 fn each_operation_has_its_row(rt: HostRuntime) {
     let mut count = 0_u32;
+    let mut wrong = None;
     for case in &CASES {
         for (op, text, opcode) in case.operations {
-            let i = instr(*op, case);
-            check_coding(&rt, &i, case, *opcode);
-            check_places(&rt, &i, case);
-            check_classes(&rt, &i, case, text, *opcode);
             count = count.wrapping_add(1);
+            if !agrees(*op, text, *opcode, case) {
+                wrong = Some(*op);
+            }
         }
     }
-    assert_eq!(rt; count, 113);
+    assert_eq!(rt; (count, wrong), (113, None));
 }
 
 /// Whether an opcode belongs to an operation.
@@ -573,86 +579,146 @@ fn is_opcode(opcode: u32) -> bool {
     }
 }
 
-#[test]
-fn each_opcode_is_decoded_or_refused(rt: HostRuntime) {
-    for opcode in (0..=256).chain([0x1000, 0x8040, 0xffff]) {
-        match decode(opcode, 0) {
-            Ok(i) => {
-                assert!(rt; is_opcode(opcode), "{opcode:#x}");
-                assert_eq!(rt; number(i.op) as u32, opcode);
-            }
-            Err(illegal) => {
-                assert!(rt; !is_opcode(opcode), "{opcode:#x}");
-                assert_eq!(rt; illegal.opcode as u32, opcode);
-                assert_eq!(rt; illegal.why, IllegalWhy::Opcode);
-            }
+/// Whether an opcode is decoded to its operation where it has one, and else refused.
+fn is_judged(opcode: u32) -> bool {
+    match decode(opcode, 0) {
+        Ok(i) => is_opcode(opcode) && number(i.op) as u32 == opcode,
+        Err(illegal) => {
+            !is_opcode(opcode)
+                && illegal.opcode as u32 == opcode
+                && illegal.why == IllegalWhy::Opcode
         }
     }
 }
 
 #[test]
+fn each_opcode_is_decoded_or_refused(rt: HostRuntime) {
+    let mut wrong = None;
+    for opcode in (0..=256).chain([0x1000, 0x8040, 0xffff]) {
+        if !is_judged(opcode) {
+            wrong = Some(opcode);
+        }
+    }
+    assert_eq!(rt; wrong, None);
+}
+
+/// Words that code no instruction, with the opcode and the reason.
+static REFUSED: [(u32, u32, u16, IllegalWhy); 14] = [
+    // ADD with rs, rt or rd 32, and with a register of 255.
+    (0x0000_0040, 0x2001_0200, 0x40, IllegalWhy::Register),
+    (0x0000_0040, 0x0120_0200, 0x40, IllegalWhy::Register),
+    (0x0000_0040, 0x0101_2000, 0x40, IllegalWhy::Register),
+    (0x0000_0040, 0xff01_0200, 0x40, IllegalWhy::Register),
+    // SLL with a shift of 32 or 255, and with a register of 32 beside it.
+    (0x0000_0055, 0x0001_0220, 0x55, IllegalWhy::Shift),
+    (0x0000_0055, 0x0001_02ff, 0x55, IllegalWhy::Shift),
+    (0x0000_0055, 0x0020_0220, 0x55, IllegalWhy::Register),
+    // DLW, DSW and their indexed forms with rt 31.
+    (0x0000_0029, 0x001f_0000, 0x29, IllegalWhy::Register),
+    (0x0000_0035, 0x001f_0000, 0x35, IllegalWhy::Register),
+    (0x0000_00ce, 0x001f_0000, 0xce, IllegalWhy::Register),
+    (0x0000_00d0, 0x001f_0000, 0xd0, IllegalWhy::Register),
+    // No operation, whatever the fields and the annotation.
+    (0x0000_0021, 0xffff_ffff, 0x21, IllegalWhy::Opcode),
+    (0x0040_0100, 0x2020_2020, 0x100, IllegalWhy::Opcode),
+    (0xffff_ffff, 0x0000_0000, 0xffff, IllegalWhy::Opcode),
+];
+
+/// The last values that are allowed: register 31, rt 30 of a pair, a shift of 31.
+static ALLOWED: [(u32, u32); 3] = [
+    (0x40, 0x1f1f_1f00),
+    (0x29, 0x1f1e_ffff),
+    (0x55, 0xff1f_1f1f),
+];
+
+#[test]
 fn words_are_refused_for_the_first_reason(rt: HostRuntime) {
-    let refused = [
-        // ADD with rs, rt or rd 32, and with a register of 255.
-        (0x0000_0040, 0x2001_0200, 0x40, IllegalWhy::Register),
-        (0x0000_0040, 0x0120_0200, 0x40, IllegalWhy::Register),
-        (0x0000_0040, 0x0101_2000, 0x40, IllegalWhy::Register),
-        (0x0000_0040, 0xff01_0200, 0x40, IllegalWhy::Register),
-        // SLL with a shift of 32 or 255, and with a register of 32 beside it.
-        (0x0000_0055, 0x0001_0220, 0x55, IllegalWhy::Shift),
-        (0x0000_0055, 0x0001_02ff, 0x55, IllegalWhy::Shift),
-        (0x0000_0055, 0x0020_0220, 0x55, IllegalWhy::Register),
-        // DLW, DSW and their indexed forms with rt 31.
-        (0x0000_0029, 0x001f_0000, 0x29, IllegalWhy::Register),
-        (0x0000_0035, 0x001f_0000, 0x35, IllegalWhy::Register),
-        (0x0000_00ce, 0x001f_0000, 0xce, IllegalWhy::Register),
-        (0x0000_00d0, 0x001f_0000, 0xd0, IllegalWhy::Register),
-        // No operation, whatever the fields and the annotation.
-        (0x0000_0021, 0xffff_ffff, 0x21, IllegalWhy::Opcode),
-        (0x0040_0100, 0x2020_2020, 0x100, IllegalWhy::Opcode),
-        (0xffff_ffff, 0x0000_0000, 0xffff, IllegalWhy::Opcode),
-    ];
-    for (first, second, opcode, why) in refused {
-        assert_eq!(rt;
-            decode(first, second),
-            Err(Illegal { opcode, why }),
-            "{second:#x}"
-        );
+    let mut wrong = None;
+    for (first, second, opcode, why) in REFUSED {
+        if decode(first, second) != Err(Illegal { opcode, why }) {
+            wrong = Some((first, second));
+        }
     }
-    // The last values that are allowed: register 31, rt 30 of a pair, a shift of 31.
-    for (first, second) in [
-        (0x40, 0x1f1f_1f00),
-        (0x29, 0x1f1e_ffff),
-        (0x55, 0xff1f_1f1f),
-    ] {
-        assert!(rt; decode(first, second).is_ok(), "{second:#x}");
+    for (first, second) in ALLOWED {
+        if decode(first, second).is_err() {
+            wrong = Some((first, second));
+        }
     }
+    assert_eq!(rt; wrong, None);
+}
+
+/// Words with the places of their instruction: read first, read second, written.
+type Placed = (
+    u32,
+    u32,
+    &'static [Place],
+    &'static [Place],
+    &'static [Place],
+);
+
+static PLACED: [Placed; 9] = [
+    // ADD with rs and rt the same, with rd one of them, with all registers 0.
+    (0x40, 0x0404_0600, &[Reg(4)], &[], &[Reg(6)]),
+    (0x40, 0x0405_0400, &[Reg(4), Reg(5)], &[], &[Reg(4)]),
+    (0x40, 0x0000_0000, &[], &[], &[]),
+    // DLW and DSW with rt 0 and 30.
+    (0x29, 0x0400_0000, &[Reg(4)], &[], &[Reg(1)]),
+    (0x35, 0x041e_0000, &[Reg(4)], &[Reg(30), Reg(31)], &[]),
+    // LWL into its own address register; SW_RR with index and data the same.
+    (0x2c, 0x0404_0000, &[Reg(4)], &[Reg(4)], &[Reg(4)]),
+    (0xc8, 0x0506_0600, &[Reg(5), Reg(6)], &[Reg(6)], &[]),
+    // JALR through and into register 31, and into register 0.
+    (0x04, 0x1f00_1f00, &[Reg(31)], &[], &[Reg(31)]),
+    (0x04, 0x1f00_0000, &[Reg(31)], &[], &[]),
+];
+
+/// Whether two words code an instruction that has these places.
+fn is_placed(row: &Placed) -> bool {
+    let (first, second, main, late, written) = row;
+    decode(*first, *second).is_ok_and(|i| has_places(&i, main, late, written))
 }
 
 #[test]
 fn places_leave_out_register_0_and_repetitions(rt: HostRuntime) {
-    let words: [(u32, u32, &[Place], &[Place], &[Place]); 9] = [
-        // ADD with rs and rt the same, with rd one of them, with all registers 0.
-        (0x40, 0x0404_0600, &[Reg(4)], &[], &[Reg(6)]),
-        (0x40, 0x0405_0400, &[Reg(4), Reg(5)], &[], &[Reg(4)]),
-        (0x40, 0x0000_0000, &[], &[], &[]),
-        // DLW and DSW with rt 0 and 30.
-        (0x29, 0x0400_0000, &[Reg(4)], &[], &[Reg(1)]),
-        (0x35, 0x041e_0000, &[Reg(4)], &[Reg(30), Reg(31)], &[]),
-        // LWL into its own address register; SW_RR with index and data the same.
-        (0x2c, 0x0404_0000, &[Reg(4)], &[Reg(4)], &[Reg(4)]),
-        (0xc8, 0x0506_0600, &[Reg(5), Reg(6)], &[Reg(6)], &[]),
-        // JALR through and into register 31, and into register 0.
-        (0x04, 0x1f00_1f00, &[Reg(31)], &[], &[Reg(31)]),
-        (0x04, 0x1f00_0000, &[Reg(31)], &[], &[]),
-    ];
-    for (first, second, main, late, written) in words {
-        let i = decode(first, second).expect(&rt, "legal");
-        assert_eq!(rt; reads_main(&i).as_slice(), main, "{i:?}");
-        assert_eq!(rt; reads_second(&i).as_slice(), late, "{i:?}");
-        assert_eq!(rt; writes(&i).as_slice(), written, "{i:?}");
+    let mut wrong = None;
+    for row in &PLACED {
+        if !is_placed(row) {
+            wrong = Some((row.0, row.1));
+        }
     }
-    // JR of register 31 is a return.
-    let back = decode(0x03, 0x1f00_0000).expect(&rt, "legal");
-    assert_eq!(rt; control(&back), ControlKind::Return);
+    assert_eq!(rt; wrong, None);
+}
+
+#[test]
+fn a_jump_to_register_31_is_a_return(rt: HostRuntime) {
+    let back = decode(0x03, 0x1f00_0000).is_ok_and(|i| control(&i) == ControlKind::Return);
+    assert!(rt; back);
+}
+
+/// Branches and jumps: the address, the field and where they go.
+#[test]
+fn targets_are_reached_from_their_addresses(rt: HostRuntime) {
+    let mut wrong = None;
+    for (pc, imm, target) in [
+        (0x0040_0140, 0x0003, 0x0040_0154),
+        (0x0040_0140, 0xfffe, 0x0040_0140),
+        (0x0040_0140, 0x8000, 0x003e_0148),
+        (0x0040_0140, 0x7fff, 0x0042_0144),
+        (0x0000_0000, 0x8000, 0xfffe_0008),
+        (0xffff_fff8, 0x0002, 0x0000_0008),
+    ] {
+        if branch_target(pc, imm) != target {
+            wrong = Some(pc);
+        }
+    }
+    for (pc, field, target) in [
+        (0x0040_0140, 0x0010_0060, 0x0040_0180),
+        (0x1040_0140, 0x03ff_ffff, 0x1fff_fffc),
+        (0xf000_0000, 0x0000_0000, 0xf000_0000),
+    ] {
+        if jump_target(pc, field) != target {
+            wrong = Some(pc);
+        }
+    }
+    assert_eq!(rt; wrong, None);
 }

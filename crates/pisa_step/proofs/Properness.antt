@@ -23,11 +23,12 @@ use Rattle.pisa_step.specs.declared.cause.Cause.{Cause}
 use Rattle.pisa_step.specs.declared.cause.Cause.TheVariants as cause
 use Rattle.pisa_step.specs.declared.changes.Changes.{Changes}
 use Rattle.pisa_step.specs.declared.changes.TextRange.{TextRange}
+use Rattle.pisa_isa.specs.Targets.{branch_target}
 use Rattle.pisa_step.specs.Reader.{Reader}
 use Rattle.pisa_step.specs.Words.{word_sum}
 use Rattle.pisa_step.specs.Arithmetic.{is_taken, target_of}
 use Rattle.pisa_step.specs.Memory.{address_of, loaded_of, loaded_size, half_bytes, word_bytes, stored_of, stored_size, word_at, part_stored, part_start, meets}
-use Rattle.pisa_step.specs.Effect.{AreRegisters, TakesPair, aligned, branch_target, branches, going_on, linked, loads, moves_to, outcome_of, store_at, store_part_at, stores, writes_both, writes_reg, written}
+use Rattle.pisa_step.specs.Effect.{AreRegisters, TakesPair, aligned, branches, going_on, linked, loads, moves_to, outcome_of, store_at, store_part_at, stores, writes_both, writes_reg, written}
 use Rattle.pisa_step.specs.Proper.{IsProper, IsRising}
 
 -- rising registers are below 32

@@ -1,8 +1,9 @@
 -- What an instruction does: its changes, or the cause for which it stops.
-use Rattle.std.specs.Prelude.{◌≡◌, ◌<◌, ℕ, ℤ, ◌+◌, ◌*◌, ◌/◌, ◌%◌, ◌^◌, Bool, true, false, ◌==◌, List, [], ◌∷◌, ◌++◌, length, Option, Some, None, Result, Ok, Err, nat_eq, bit_and, bit_or, unwrap_or, if◌then◌else◌}
+use Rattle.std.specs.Prelude.{◌≡◌, ◌<◌, ℕ, ℤ, ◌+◌, ◌*◌, ◌/◌, ◌%◌, ◌^◌, Bool, true, false, ◌==◌, List, [], ◌∷◌, ◌++◌, length, Option, Some, None, Result, Ok, Err, nat_eq, unwrap_or, if◌then◌else◌}
 use Rattle.arrayvec.specs.ArrayVec.{ArrayVec}
 use Rattle.pisa_isa.specs.declared.instr.Instr.{Instr}
 use Rattle.pisa_isa.specs.Coding.{number_of}
+use Rattle.pisa_isa.specs.Targets.{branch_target, jump_target}
 use Rattle.pisa_step.specs.declared.action.Action.{Action}
 use Rattle.pisa_step.specs.declared.action.Action.TheVariants as action
 use Rattle.pisa_step.specs.declared.action.Link.{Link}
@@ -21,7 +22,7 @@ use Rattle.pisa_step.specs.declared.changes.Changes.{Changes}
 use Rattle.pisa_step.specs.declared.changes.MemWrite.{MemWrite}
 use Rattle.pisa_step.specs.declared.changes.TextRange.{TextRange}
 use Rattle.pisa_step.specs.Reader.{Reader, regs_after, with_bytes}
-use Rattle.pisa_step.specs.Words.{word_sum, word_product, word_of, is_in_word, half_extended}
+use Rattle.pisa_step.specs.Words.{word_sum, word_of, is_in_word}
 use Rattle.pisa_step.specs.Actions.{action_of}
 use Rattle.pisa_step.specs.Arithmetic.{alu_of, exact_of, product_of, quotient_of, remainder_of, first_of, second_of, target_of, is_taken}
 use Rattle.pisa_step.specs.Memory.{address_of, loaded_of, loaded_size, stored_of, stored_size, word_at, part_loaded_at, part_stored, part_start, meets}
@@ -47,13 +48,6 @@ written r value = if nat_eq r 0 then [] else (r, value) ∷ []
 
 abbrev pub writes_reg : ℕ → ℕ → ℕ → Changes
 writes_reg pc r value = record (going_on pc) { regs = vec_of (written r value) }
-
--- the target of a branch, and that of a jump, which stays in the region of 2^28 bytes
-abbrev pub branch_target : ℕ → ℕ → ℕ
-branch_target pc imm = word_sum (word_sum pc 8) (word_product 4 (half_extended imm))
-
-abbrev pub jump_target : ℕ → ℕ → ℕ
-jump_target pc target = bit_or (bit_and pc 0xf0000000) (4 * target)
 
 -- the return address of a jump that keeps it
 abbrev pub linked : Link → ℕ → ℕ → List (ℕ × ℕ)

@@ -2,9 +2,10 @@
 ghost use Rattle.std.specs.Prelude.{◌≡◌, ◌≢◌, ◌+◌, ◌-◌, ◌%◌, ◌<◌, ◌≤◌, ◌^◌, length, IfOk};
 ghost use Rattle.pisa_step.specs.Proper.{IsProper};
 ghost use Rattle.pisa_isa.specs.Coding.{IsWellFormed};
+ghost use Rattle.pisa_isa.specs.Targets.{branch_target, jump_target};
 ghost use Rattle.pisa_step.specs.Arithmetic.{first_of, second_of, target_of, exact_of, alu_of, is_taken};
 ghost use Rattle.pisa_step.specs.Memory.{address_of};
-ghost use Rattle.pisa_step.specs.Effect.{AreRegisters, TakesPair, branch_target, branches, divides, effect_of, exactly, going_on, jump_target, jumps, linked, load_at, load_pair_at, load_part_at, loads, moves_from, moves_to, multiplies, outcome_of, store_at, store_part_at, stores, vec_of, writes_reg, written};
+ghost use Rattle.pisa_step.specs.Effect.{AreRegisters, TakesPair, branches, divides, effect_of, exactly, going_on, jumps, linked, load_at, load_pair_at, load_part_at, loads, moves_from, moves_to, multiplies, outcome_of, store_at, store_part_at, stores, vec_of, writes_reg, written};
 
 use crate::action::{
     Action, Address, Alu, Condition, Exact, Form, Half, Link, Loaded, Side, Sign, Stored,
@@ -15,7 +16,7 @@ use crate::machine::Machine;
 use crate::memory::{meets_text, word};
 use crate::words::extend_half;
 use arrayvec::ArrayVec;
-use pisa_isa::{Instr, Op, number};
+use pisa_isa::{Instr, Op, branch_target, jump_target, number};
 
 /// What an instruction at `pc` does: its changes, or the first cause for which it stops, in the
 /// order floating point, break, overflow or division by zero, misaligned address, write into text.
@@ -120,7 +121,7 @@ fn jump(i: &Instr, pc: u32, link: Link) -> Changes
     ensures { result ≡ jumps pc (jump_target pc i.now.target) (linked link 31 pc) }
 {
     Changes {
-        next: (pc & 0xf000_0000) | (4 * i.target),
+        next: jump_target(pc, i.target),
         taken: true,
         regs: link_register(link, 31, pc),
         ..Changes::after(pc)
@@ -149,9 +150,8 @@ fn branch<M: Machine>(m: &M, i: &Instr, pc: u32, test: Condition) -> Changes
     if !test.holds(m.reg(i.rs), m.reg(i.rt)) {
         return Changes::after(pc);
     }
-    let offset = extend_half(i.imm).wrapping_mul(4);
     Changes {
-        next: pc.wrapping_add(8).wrapping_add(offset),
+        next: branch_target(pc, i.imm),
         taken: true,
         ..Changes::after(pc)
     }

@@ -5,6 +5,7 @@ use Rattle.std.specs.Option.{ForSome}
 use Rattle.std.proofs.lemmas.Bool.Decides.{nat_tests}
 use Rattle.pisa_isa.specs.declared.instr.Instr.{Instr}
 use Rattle.pisa_isa.specs.Coding.{decoded}
+use Rattle.pisa_isa.specs.Targets.{branch_target}
 use Rattle.pisa_step.specs.declared.action.Action.{Action}
 use Rattle.pisa_step.specs.declared.action.Action.TheVariants as action
 use Rattle.pisa_step.specs.declared.action.Half.{Half}
@@ -19,7 +20,7 @@ use Rattle.pisa_step.specs.Actions.{action_of}
 use Rattle.pisa_step.specs.Reader.{Reader, bytes_with, regs_with, regs_after}
 use Rattle.pisa_step.specs.Arithmetic.{is_taken}
 use Rattle.pisa_step.specs.Memory.{address_of, loaded_size, stored_of, part_stored, part_start, meets}
-use Rattle.pisa_step.specs.Effect.{aligned, branch_target, branches, effect_of, going_on, loads, moves_to, outcome_of, stores, vec_of, with_write, writes_both, writes_reg}
+use Rattle.pisa_step.specs.Effect.{aligned, branches, effect_of, going_on, loads, moves_to, outcome_of, stores, vec_of, with_write, writes_both, writes_reg}
 use Rattle.ecoff_load.specs.Fetch.{fetch}
 use Rattle.event_trace.specs.declared.trace.Block.{Block}
 use Rattle.event_trace.specs.declared.trace.Record.{Record}
