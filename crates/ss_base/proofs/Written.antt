@@ -1,7 +1,7 @@
 -- Lemmas on a write of all bytes, by parts.
-use Rattle.std.proofs.Common.{◌≡◌, ◌+◌, ◌-◌, ◌≤◌, ◌++◌, ◌∙◌, ℕ, List, Option, Some, None, sym, ap, arith, subst, length, take, drop, append_assoc, false, true}
+use Rattle.std.proofs.Common.{◌≡◌, ◌+◌, ◌-◌, ◌≤◌, ◌<◌, ◌++◌, ◌∙◌, ℕ, List, [], ◌∷◌, Bool, IsTrue, ◌↔◌, Option, Some, None, refl, sym, ap, arith, subst, length, take, drop, append_assoc, false, true}
 use Rattle.std.proofs.Math.Seq.{take-append_seam, take-add}
-use Rattle.std.proofs.lemmas.List.{take_all, take-append-drop, length-drop, drop-drop}
+use Rattle.std.proofs.lemmas.List.{take_all, take-append-drop, length-append, length-take, length-drop, drop-drop}
 use Rattle.std.specs.Io.KnownBytes.{Appends, Keeps}
 use Rattle.ss_base.specs.Outside.{BeginsWith}
 use Rattle.ss_base.specs.Known.{WritesWhole}
@@ -28,16 +28,27 @@ front_of_part x bytes k =
     (rw (← append_assoc x (take k bytes) (drop k bytes)) (take-append_seam (x ++ take k bytes) (drop k bytes)))
 
 -- a part that ended early
-pub written_part : (old new : Option (List ℕ)) (bytes : List ℕ) (k : ℕ) → Appends old new (take k bytes) → WritesWhole old new bytes false
-written_part None new bytes k p = tt
-written_part (Some x) None bytes k p = absurd p
-written_part (Some x) (Some z) bytes k p = rw p (take-append_seam x (take k bytes), front_of_part x bytes k)
+pub written_part : (old new : Option (List ℕ)) (bytes : List ℕ) (k : ℕ) → k < length bytes → Appends old new (take k bytes) → WritesWhole old new bytes false
+written_part None new bytes k h p = tt
+written_part (Some x) None bytes k h p = absurd p
+written_part (Some x) (Some z) bytes k h p =
+    let shorter : length (x ++ take k bytes) < length x + length bytes = omega (arith, h, length-append x (take k bytes), length-take k bytes) in
+    rw p (take-append_seam x (take k bytes), front_of_part x bytes k, shorter)
 
 -- a part that is all
 pub written_all : (old new : Option (List ℕ)) (bytes : List ℕ) (k : ℕ) → length bytes ≤ k → Appends old new (take k bytes) → WritesWhole old new bytes true
 written_all None new bytes k h p = tt
 written_all (Some x) None bytes k h p = absurd p
 written_all (Some x) (Some z) bytes k h p = p ∙ ap (λ l. x ++ l) (take_all k bytes h)
+
+-- at the end all was written where nothing is left, and a part where something is
+pub written_end : (old new : Option (List ℕ)) (bytes rest : List ℕ) (whole : Bool) → (IsTrue whole ↔ (length rest ≡ 0)) → length rest ≤ length bytes
+    → Appends old new (take (length bytes - length rest) bytes) → WritesWhole old new bytes whole
+written_end old new bytes rest true h le p =
+    written_all old new bytes (length bytes - length rest) (omega (arith, h.0 refl, le)) p
+written_end old new bytes [] false h le p = absurd (let bad : false ≡ true = h.1 refl in cc)
+written_end old new bytes (b ∷ bs) false h le p =
+    written_part old new bytes (length bytes - length (b ∷ bs)) (omega (arith, le)) p
 
 -- what is left after n bytes more, and how much was written by then
 pub rest_after : (rest : List ℕ) (n : ℕ) → take (length rest - n) (drop n rest) ≡ drop n rest

@@ -1,6 +1,7 @@
-ghost use Rattle.std.specs.Prelude.{◌≡◌, ◌≢◌, ◌+◌, ◌≤◌, ◌<◌, None, [], IsSome, length, unwrap_or};
+ghost use Rattle.std.specs.Prelude.{◌≡◌, ◌≢◌, ◌+◌, ◌≤◌, ◌<◌, None, [], IsSome, IsTrue, OnOk, length, unwrap_or};
+ghost use Rattle.std.specs.Io.KnownBytes.{IsAtEnd};
 ghost use Rattle.ss_base.specs.Outside.{HasLength};
-ghost use Rattle.ss_base.specs.Known.{WritesWhole};
+ghost use Rattle.ss_base.specs.Known.{WritesWhole, ReadsWhole};
 
 use crate::fault::{LoadFault, PutFault};
 use crate::outside::{Shelf, Sink};
@@ -24,7 +25,8 @@ pub struct HostSink<W> {
 
 /// Writes all bytes, and answers whether that went well.
 fn write_whole<W: Write>(out: &mut W, bytes: &[u8]) -> bool
-    ensures { WritesWhole (W.contents out.old) (W.contents out.new) bytes.now result }
+    ensures bytes { WritesWhole (W.contents out.old) (W.contents out.new) bytes.now result }
+    ensures none { bytes.now ≡ [] → IsTrue result }
 {
     let mut rest = bytes;
     for _ in 0..u64::MAX {
@@ -37,7 +39,7 @@ fn write_whole<W: Write>(out: &mut W, bytes: &[u8]) -> bool
             Err(_) => return false,
         }
     }
-    false
+    rest.is_empty()
 }
 
 impl<W: Write + Drop> HostSink<W> {
@@ -81,7 +83,9 @@ impl<'a, R: Files> HostShelf<'a, R> {
 /// Reads the rest of a file of at most `limit` bytes.
 fn read_whole<F: Read>(file: &mut F, limit: u64, into: &mut Vec<u8>) -> Result<(), LoadFault>
     requires { length into.old.items ≡ 0 }
-    ensures { HasLength limit into.new.items result }
+    ensures length { HasLength limit into.new.items result }
+    ensures bytes { ReadsWhole (F.remaining file.old) limit into.new.items result }
+    ensures end { OnOk result (IsAtEnd (F.remaining file.new)) }
 {
     let mut buffer = [0u8; 4096];
     for _ in 0..u64::MAX {

@@ -3,8 +3,9 @@
 //! Files and streams are traits, `Shelf` and `Sink`, whose contracts say what each call does to
 //! what is held, when a call may fail, and how failures are counted. The crate promises that a
 //! call fails only where its count of faults rose, that a fault leaves a front of what was to be
-//! written, and that files other than the named one stay. `MemShelf` and `MemSink` hold what they
-//! were given and fail at chosen calls; `HostShelf` and `HostSink` reach real files and streams.
+//! written, that files other than the named one stay, and that what is `calm` does not fail from
+//! then on. `MemShelf` and `MemSink` hold what they were given and fail at chosen calls;
+//! `HostShelf` and `HostSink` reach real files and streams.
 #![tactic(auto)]
 
 mod bytes;
