@@ -40,6 +40,13 @@ RunCounts means before now (Ok _) = now ≡ before
 RunCounts means before now (Err (faults.Watch f)) = Faulted (means f) before now
 RunCounts means before now (Err faults.OutOfMemory) = now ≡ before
 
+-- what memory a run wants: over an observer that takes none, that takes none from then on, and a fault of
+-- it doesn't mean memory; the run itself finds none only where its steps aren't held by what there is
+abbrev pub RunMemory : {S T F : Type 0} → (S → Type 0) → (F → Meaning) → Type 0 → S → S → Result T (RunFault F) → Type 0
+RunMemory takes_none means held before now (Ok e) = takes_none before → takes_none now
+RunMemory takes_none means held before now (Err (faults.Watch f)) = takes_none before → takes_none now × (means f ≢ meaning.Memory)
+RunMemory takes_none means held before now (Err faults.OutOfMemory) = (takes_none before → takes_none now) × (held → ⊥)
+
 -- what an observer has taken after a run of up to n steps: the number of steps that were done is
 -- the difference of the counts of instructions, and it was cut within the last one where it failed
 abbrev pub RunTook : {S T F : Type 0} → (S → List Item → S → Type 0) → (S → List Item → S → Type 0) → Trace → ℕ → State → State → S → List Item → S → Result T (RunFault F) → Type 0
