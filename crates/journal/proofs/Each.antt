@@ -23,7 +23,7 @@ pub input_at : (names : List (Bor (List ℕ))) (limit k : ℕ) (d : Bor (List �
 input_at names limit k d l =
     let e : length (map (λ (n : Bor (List ℕ)). n.now) names) ≡ length names = length-map names (λ (n : Bor (List ℕ)). n.now) in
     ap (λ (x : List ℕ). input x limit) (sym (get_or-map (λ (n : Bor (List ℕ)). n.now) names k d [] l))
-        ∙ sym (get_or-map (λ (x : List ℕ). input x limit) (map (λ n. n.now) names) k [] (input [] limit) (omega (arith, e)))
+    ∙ sym (get_or-map (λ (x : List ℕ). input x limit) (map (λ n. n.now) names) k [] (input [] limit) (omega (arith, e)))
 
 -- all places of a list
 pub all_places : (names : List (Bor (List ℕ))) (limit k : ℕ) → length names ≤ k → take k (inputs (map (λ n. n.now) names) limit) ≡ inputs (map (λ n. n.now) names) limit
