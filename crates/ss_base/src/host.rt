@@ -58,6 +58,8 @@ impl<W: Write + Drop> Sink for HostSink<W> {
 
     ghost faults = { λ s. s.faults };
 
+    ghost calm = { λ _. ⊥ };
+
     fn put(&mut self, bytes: &[u8]) -> Result<(), PutFault> {
         if write_whole(&mut self.out, bytes) {
             return Ok(());

@@ -86,6 +86,7 @@ impl MemSink {
     pub fn new(alloc: Global) -> MemSink
         ensures contents { ⟦<MemSink as Sink>⟧.contents result ≡ [] }
         ensures faults { ⟦<MemSink as Sink>⟧.faults result ≡ 0 }
+        ensures calm { ⟦<MemSink as Sink>⟧.calm result }
         ensures listed { sink_listed result ≡ [] }
         ensures next { sink_next result ≡ 0 }
     {
@@ -123,10 +124,14 @@ impl Sink for MemSink {
 
     ghost faults = { λ s. s.calls.faults };
 
+    ghost calm = { λ s. NoneListed s.calls.failing.items s.calls.next };
+
     fn put(&mut self, bytes: &[u8]) -> Result<(), PutFault>
         ensures count { PutCounts (⟦<MemSink as Sink>⟧.faults self.old) (⟦<MemSink as Sink>⟧.faults self.new) result }
         ensures telling { ⟦<MemSink as Sink>⟧.tells self.old → ⟦<MemSink as Sink>⟧.tells self.new }
         ensures contents { ⟦<MemSink as Sink>⟧.tells self.old → Adds (⟦<MemSink as Sink>⟧.contents self.old) bytes.now (⟦<MemSink as Sink>⟧.contents self.new) result }
+        ensures calm { ⟦<MemSink as Sink>⟧.calm self.old → ⟦<MemSink as Sink>⟧.calm self.new }
+        ensures succeeds { ⟦<MemSink as Sink>⟧.calm self.old → result ≢ Err PutFault.Failed }
         ensures listed { (result ≡ Err PutFault.Failed) ↔ Contains (sink_listed self.old) (sink_next self.old) }
         ensures unchanged { OnErr result (⟦<MemSink as Sink>⟧.contents self.new ≡ ⟦<MemSink as Sink>⟧.contents self.old) }
         ensures stays { sink_listed self.new ≡ sink_listed self.old }

@@ -14,12 +14,17 @@ pub trait Sink {
     /// How often it failed, up to the counter's last value.
     ghost faults: { Self → ℕ };
 
+    /// From now on no put fails.
+    ghost calm: { Self → Type 0 };
+
     /// Adds bytes at the end. After `Failed` a front of them was added, and the count of faults
     /// rose or stands at its last value. After `OutOfMemory` none was added.
     fn put(&mut self, bytes: &[u8]) -> Result<(), PutFault>
         ensures count { PutCounts (faults self.old) (faults self.new) result }
         ensures telling { tells self.old → tells self.new }
-        ensures contents { tells self.old → Adds (contents self.old) bytes.now (contents self.new) result };
+        ensures contents { tells self.old → Adds (contents self.old) bytes.now (contents self.new) result }
+        ensures calm { calm self.old → calm self.new }
+        ensures succeeds { calm self.old → result ≢ Err PutFault.Failed };
 }
 
 /// Files by name.

@@ -1,0 +1,158 @@
+-- Laws of chains of judgements.
+use Rattle.std.proofs.Common.{◌≡◌, ℕ, Bool, List, [], ◌∷◌, Option, Some, None, Result, Ok, Err, refl, sym, ap, ◌∙◌, subst, ⊎_elim, inl, inr}
+use Rattle.ecoff_load.specs.declared.fault.Refusal.{Refusal as Misfit}
+use Rattle.ecoff_load.specs.declared.image.Image.{Image}
+use Rattle.ecoff_load.specs.Object.{IsObject}
+use Rattle.ecoff_load.specs.Checks.{refusal}
+use Rattle.ecoff_load.proofs.Exact.{read_as, is_only}
+use Rattle.event_trace.specs.declared.fault.TraceFault.{TraceFault}
+use Rattle.event_trace.specs.declared.fault.TraceFault.TheVariants as trace_fault
+use Rattle.event_trace.specs.declared.trace.Trace.{Trace}
+use Rattle.event_trace.specs.Grammar.{absent_trace}
+use Rattle.event_trace.specs.Reading.{checked}
+use Rattle.event_trace.specs.World.{File}
+use Rattle.journal.specs.declared.fault.Fault.{Fault}
+use Rattle.journal.specs.declared.fault.Fault.TheVariants as fault
+use Rattle.journal.specs.declared.loading.Found.{Found}
+use Rattle.journal.specs.declared.loading.Found.TheVariants as found
+use Rattle.journal.specs.View.{View, Wrote}
+use Rattle.journal.specs.Load.{Input}
+use Rattle.journal.specs.Outcome.{Outcome, Comes}
+use Rattle.journal.specs.Loading.{comes_now, comes_wanting}
+use Rattle.answers.specs.declared.answer.Answer.{Answer}
+use Rattle.answers.specs.declared.answer.Answer.TheVariants as answer
+use Rattle.answers.specs.declared.refusal.Refusal.{Refusal}
+use Rattle.answers.specs.declared.refusal.Refusal.TheVariants as refusals
+use Rattle.answers.specs.Answer.{refused}
+use Rattle.answers.specs.Judging.{LoadsFile, LoadsNamed, LoadsEach, JudgesObject, JudgesOrder, JudgesRead, JudgesTrace, JudgesGiven, IsTraceOf, IsGiven, RefusesBy, Refuses}
+
+-- ---- what comes next may be said otherwise
+
+pub file_map : (name : List ℕ) (loaded : List Found) (o : Outcome Answer) (N M : List ℕ → List Found → Type 0)
+    → ((bytes : List ℕ) (others : List Found) → N bytes others → M bytes others) → LoadsFile name loaded o N → LoadsFile name loaded o M
+file_map name [] o N M f x = x
+file_map name (found.TooLong ∷ others) o N M f x = x
+file_map name (found.Whole bytes ∷ others) o N M f x = f bytes others x
+
+pub named_map : (name : Option (List ℕ)) (loaded : List Found) (o : Outcome Answer) (N M : Option (List ℕ) → List Found → Type 0)
+    → ((bytes : Option (List ℕ)) (others : List Found) → N bytes others → M bytes others) → LoadsNamed name loaded o N → LoadsNamed name loaded o M
+named_map None loaded o N M f x = f None loaded x
+named_map (Some name) loaded o N M f x = file_map name loaded o (λ bytes others. N (Some bytes) others) (λ bytes others. M (Some bytes) others) (λ bytes others. f (Some bytes) others) x
+
+pub each_map : (names : List (List ℕ)) (loaded : List Found) (o : Outcome Answer) (N M : List File → List Found → Type 0)
+    → ((files : List File) (others : List Found) → N files others → M files others) → LoadsEach names loaded o N → LoadsEach names loaded o M
+each_map [] loaded o N M f x = f [] loaded x
+each_map (name ∷ names) loaded o N M f x =
+    let first : List ℕ → List File → List File = λ bytes files. record { name = name; bytes = bytes } ∷ files in
+    file_map name loaded o (λ bytes others. LoadsEach names others o (λ files rest. N (first bytes files) rest)) (λ bytes others. LoadsEach names others o (λ files rest. M (first bytes files) rest))
+    (λ bytes others. each_map names others o (λ files rest. N (first bytes files) rest) (λ files rest. M (first bytes files) rest) (λ files. f (first bytes files)))
+    x
+
+pub object_map : (bytes : List ℕ) (o : Outcome Answer) (N M : Image → Type 0) → ((image : Image) → N image → M image) → JudgesObject bytes o N → JudgesObject bytes o M
+object_map bytes o N M f x = ⊎_elim (λ h. inl h) (λ h. inr (h.0, h.1, f h.0 h.2)) x
+
+-- an object that is refused is so whatever comes next
+pub object_never : (bytes : List ℕ) (o : Outcome Answer) (M : Image → Type 0) → JudgesObject bytes o (λ _. ⊥) → JudgesObject bytes o M
+object_never bytes o M x = object_map bytes o (λ _. ⊥) M (λ image h. absurd h) x
+
+pub order_map : (trace : Trace) (big : Bool) (o : Outcome Answer) (N M : Trace → Type 0) → ((t : Trace) → N t → M t) → JudgesOrder trace big o N → JudgesOrder trace big o M
+order_map trace big o N M f x = ⊎_elim (λ h. inl h) (λ h. inr (h.0, f trace h.1)) x
+
+read_map : (read : Result Trace TraceFault) (big : Bool) (o : Outcome Answer) (N M : Trace → Type 0) → ((t : Trace) → N t → M t) → JudgesRead read big o N → JudgesRead read big o M
+read_map (Err (trace_fault.Bad at reason)) big o N M f x = x
+read_map (Err trace_fault.OutOfMemory) big o N M f x = x
+read_map (Ok trace) big o N M f x = order_map trace big o N M f x
+
+pub trace_map : (bytes : List ℕ) (big : Bool) (o : Outcome Answer) (N M : Trace → Type 0) → ((t : Trace) → N t → M t) → JudgesTrace bytes big o N → JudgesTrace bytes big o M
+trace_map bytes big o N M f x = read_map (checked bytes) big o N M f x
+
+pub given_map : (calls : Option (List ℕ)) (big : Bool) (o : Outcome Answer) (N M : Trace → Type 0) → ((t : Trace) → N t → M t) → JudgesGiven calls big o N → JudgesGiven calls big o M
+given_map None big o N M f x = f absent_trace x
+given_map (Some bytes) big o N M f x = trace_map bytes big o N M f x
+
+-- a trace that is refused is so whatever comes next
+pub given_never : (calls : Option (List ℕ)) (big : Bool) (o : Outcome Answer) (M : Trace → Type 0) → JudgesGiven calls big o (λ _. ⊥) → JudgesGiven calls big o M
+given_never calls big o M x = given_map calls big o (λ _. ⊥) M (λ t h. absurd h) x
+
+-- ---- what was judged
+
+pub object_judged : (bytes : List ℕ) (o : Outcome Answer) (N : Image → Type 0) (image : Image) → IsObject bytes image → N image → JudgesObject bytes o N
+object_judged bytes o N image h x = inr (image, h, x)
+
+pub trace_judged : (bytes : List ℕ) (big : Bool) (o : Outcome Answer) (N : Trace → Type 0) (trace : Trace) → IsTraceOf bytes big trace → N trace → JudgesTrace bytes big o N
+trace_judged bytes big o N trace e x = let P : Result Trace TraceFault → Type 0 = λ r. JudgesRead r big o N in subst P (sym e.0) (inr (e.1, x))
+
+pub given_judged : (calls : Option (List ℕ)) (big : Bool) (o : Outcome Answer) (N : Trace → Type 0) (trace : Trace) → IsGiven calls big trace → N trace → JudgesGiven calls big o N
+given_judged None big o N trace e x = subst N e x
+given_judged (Some bytes) big o N trace e x = trace_judged bytes big o N trace e x
+
+-- ---- refusals
+
+-- a refusal of which an outcome speaks comes to it, without loading further files
+pub comes_refused : {O : Type 0} (v : View O) (a : O) (inputs : List Input) (b : O) (Has : List Found → Outcome Answer → Type 0) (x : Refusal) (r : Result Answer Fault)
+    → ((fs : List Found) → RefusesBy x (Has fs)) → Refuses v a x b r → Comes v a inputs Has b r
+comes_refused v a inputs b Has (refusals.Answer x) r has ends = comes_now v a inputs b Has (refused x) r has ends
+comes_refused v a inputs b Has refusals.OutOfMemory r has wanting = comes_wanting v a inputs b Has r wanting.0 wanting.1
+
+-- a refusal may be told of a weaker fact
+pub refuses_map : (x : Refusal) (N M : Outcome Answer → Type 0) → ((o : Outcome Answer) → N o → M o) → RefusesBy x N → RefusesBy x M
+refuses_map (refusals.Answer a) N M f h = f (refused a) h
+refuses_map refusals.OutOfMemory N M f h = tt
+
+-- ---- of the same files there is at most one outcome
+
+pub file_once : (name : List ℕ) (loaded : List Found) (o p : Outcome Answer) (N M : List ℕ → List Found → Type 0)
+    → ((bytes : List ℕ) (others : List Found) → N bytes others → M bytes others → o ≡ p) → LoadsFile name loaded o N → LoadsFile name loaded p M → o ≡ p
+file_once name [] o p N M f x y = absurd x
+file_once name (found.TooLong ∷ others) o p N M f x y = x ∙ sym y
+file_once name (found.Whole bytes ∷ others) o p N M f x y = f bytes others x y
+
+pub named_once : (name : Option (List ℕ)) (loaded : List Found) (o p : Outcome Answer) (N M : Option (List ℕ) → List Found → Type 0)
+    → ((bytes : Option (List ℕ)) (others : List Found) → N bytes others → M bytes others → o ≡ p) → LoadsNamed name loaded o N → LoadsNamed name loaded p M → o ≡ p
+named_once None loaded o p N M f x y = f None loaded x y
+named_once (Some name) loaded o p N M f x y = file_once name loaded o p (λ bytes others. N (Some bytes) others) (λ bytes others. M (Some bytes) others) (λ bytes others. f (Some bytes) others) x y
+
+pub each_once : (names : List (List ℕ)) (loaded : List Found) (o p : Outcome Answer) (N M : List File → List Found → Type 0)
+    → ((files : List File) (others : List Found) → N files others → M files others → o ≡ p) → LoadsEach names loaded o N → LoadsEach names loaded p M → o ≡ p
+each_once [] loaded o p N M f x y = f [] loaded x y
+each_once (name ∷ names) loaded o p N M f x y =
+    let first : List ℕ → List File → List File = λ bytes files. record { name = name; bytes = bytes } ∷ files in
+    file_once name loaded o p (λ bytes others. LoadsEach names others o (λ files rest. N (first bytes files) rest)) (λ bytes others. LoadsEach names others p (λ files rest. M (first bytes files) rest))
+    (λ bytes others. each_once names others o p (λ files rest. N (first bytes files) rest) (λ files rest. M (first bytes files) rest) (λ files. f (first bytes files)))
+    x y
+
+one_refusal : (told : Option Misfit) (a b : Misfit) → told ≡ Some a → told ≡ Some b → a ≡ b
+one_refusal None a b h k = absurd cc
+one_refusal (Some r) a b h k = let e : Some a ≡ Some b = sym h ∙ k in cc
+
+not_refused : {X : Type 0} (told : Option Misfit) (a : Misfit) → told ≡ None → told ≡ Some a → X
+not_refused told a h k = let e : None ≡ Some a = sym h ∙ k in absurd cc
+
+-- bytes are an object of at most one image
+one_image : (bytes : List ℕ) (i j : Image) → IsObject bytes i → IsObject bytes j → i ≡ j
+one_image bytes i j h k =
+    let read = read_as bytes i h in
+    is_only bytes (Ok i) j (read.holds, read.text, read.found, read.same) k
+
+pub object_once : (bytes : List ℕ) (o p : Outcome Answer) (N M : Image → Type 0) → ((image : Image) → N image → M image → o ≡ p) → JudgesObject bytes o N → JudgesObject bytes p M → o ≡ p
+object_once bytes o p N M f (inl a) (inl b) =
+    let e : a.0 ≡ b.0 = one_refusal (refusal bytes) a.0 b.0 a.1 b.1 in
+    a.2 ∙ ap (λ (r : Misfit). refused (answer.Object r.at r.why)) e ∙ sym b.2
+object_once bytes o p N M f (inl a) (inr b) = not_refused (refusal bytes) a.0 (read_as bytes b.0 b.1).holds a.1
+object_once bytes o p N M f (inr a) (inl b) = not_refused (refusal bytes) b.0 (read_as bytes a.0 a.1).holds b.1
+object_once bytes o p N M f (inr a) (inr b) = f b.0 (subst N (one_image bytes a.0 b.0 a.1 b.1) a.2) b.2
+
+order_once : (trace : Trace) (big : Bool) (o p : Outcome Answer) (N M : Trace → Type 0) → ((t : Trace) → N t → M t → o ≡ p) → JudgesOrder trace big o N → JudgesOrder trace big p M → o ≡ p
+order_once trace big o p N M f (inl a) (inl b) = a.1 ∙ sym b.1
+order_once trace big o p N M f (inl a) (inr b) = absurd (a.0 b.0)
+order_once trace big o p N M f (inr a) (inl b) = absurd (b.0 a.0)
+order_once trace big o p N M f (inr a) (inr b) = f trace a.1 b.1
+
+read_once : (read : Result Trace TraceFault) (big : Bool) (o p : Outcome Answer) (N M : Trace → Type 0) → ((t : Trace) → N t → M t → o ≡ p) → JudgesRead read big o N → JudgesRead read big p M → o ≡ p
+read_once (Err (trace_fault.Bad at reason)) big o p N M f x y = x ∙ sym y
+read_once (Err trace_fault.OutOfMemory) big o p N M f x y = absurd x
+read_once (Ok trace) big o p N M f x y = order_once trace big o p N M f x y
+
+pub given_once : (calls : Option (List ℕ)) (big : Bool) (o p : Outcome Answer) (N M : Trace → Type 0) → ((t : Trace) → N t → M t → o ≡ p) → JudgesGiven calls big o N → JudgesGiven calls big p M → o ≡ p
+given_once None big o p N M f x y = f absent_trace x y
+given_once (Some bytes) big o p N M f x y = read_once (checked bytes) big o p N M f x y

@@ -1,0 +1,4 @@
+pub mod Answer
+pub mod Report
+pub mod Judging
+pub mod JudgingLaws
