@@ -1,6 +1,6 @@
 //! Commands over files and streams in memory, with values that were worked out by hand.
 use crate::ending::{Ending, Unbuilt};
-use crate::simulate::simulate;
+use crate::simulate;
 use crate::tests::objects::P1;
 use pisa_step::Cause;
 use ss_base::{MemShelf, MemSink};

@@ -6,7 +6,7 @@ use Rattle.sim_main.specs.declared.ending.Ending.{Ending}
 use Rattle.sim_main.specs.Outcome.{IsUnbuilt}
 use Rattle.sim_main.specs.Answer.{EndsByBytes, Gets, WritesReplay}
 use Rattle.sim_main.proofs.Leaves.{unbuilt_ends, unbuilt_replay}
-use Rattle.sim_main.proofs.simulate.simulate.Goals as goal
+use Rattle.sim_main.proofs.top.simulate.Goals as goal
 
 pub returns-in-Some-Record-clause-ending : goal.returns-in-Some-Record-clause-ending
 returns-in-Some-Record-clause-ending g c = λ a.
