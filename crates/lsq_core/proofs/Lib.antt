@@ -1,0 +1,3 @@
+pub mod LawProofs
+pub mod Rises
+pub mod Walks

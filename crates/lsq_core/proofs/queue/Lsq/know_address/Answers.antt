@@ -1,0 +1,8 @@
+use Rattle.lsq_core.proofs.Rises.{address_rises, address_returns}
+use Rattle.lsq_core.proofs.queue.Lsq.know_address.Goals as goal
+
+pub invariant_of-self : goal.invariant_of-self
+invariant_of-self c = address_rises c.self.inside.slots c.learn.new.slots c.self.inside.last c.args.row c.args.cycle c.self.invariant c.learn.ensures
+
+pub returns : goal.returns
+returns c = address_returns c.self.inside.slots c.learn.new.slots c.args.self.now c.self.inside.last c.args.row c.args.cycle c.self.view_is c.learn.ensures
