@@ -11,7 +11,7 @@ use Rattle.sim_watch.proofs.watch.TextWatchObserver.saw.Goals as goal
 pub returns-in-Err-clause-took : goal.returns-in-Err-clause-took
 returns-in-Err-clause-took g c = λ start h t. record {
   outside_same = t.outside_same;
-  cut = item_cut_at_output g.O.Outside.view start.outside.now c.args.self.now.outside.now c.emit.new.outside (option_copied start.file.now) start.pending.now.items h (item_of c.args.trace.now c.args.r.now) c.emitted.result.now c.in-Err.fault c.emitted.ensures.blocks t.wrote c.in-Err.ensures;
+  cut = item_cut_at_output g.O.Outside.view start.outside.now c.args.self.now.outside.now c.emit.new.outside (option_copied start.file.now) start.pending.now.items h (item_of c.args.trace.now c.args.r.now) c.emitted.result.now c.in-Err.fault c.emitted.ensures t.wrote c.in-Err.ensures;
 }
 
 pub returns-in-Err-clause-count : goal.returns-in-Err-clause-count
@@ -24,7 +24,7 @@ returns-in-Ok-write_line_if_named-clause-took g c = λ start h t.
       outside_same = t.outside_same;
       file = t.file;
       pending = item_pending (option_copied start.file.now) (option_copied c.args.self.now.file.now) start.pending.now.items c.args.self.now.pending.now.items c.write_line_if_named.new.pending.items h i t.file t.pending c.in-Ok-write_line_if_named.ensures.1;
-      wrote = item_written g.O.Outside.view start.outside.now c.args.self.now.outside.now c.emit.new.outside c.write_line_if_named.new.outside (option_copied start.file.now) (option_copied c.args.self.now.file.now) start.pending.now.items c.args.self.now.pending.now.items h i c.emitted.result.now t.file t.pending c.emitted.ensures.blocks t.wrote c.in-Ok.ensures c.in-Ok-write_line_if_named.ensures.0;
+      wrote = item_written g.O.Outside.view start.outside.now c.args.self.now.outside.now c.emit.new.outside c.write_line_if_named.new.outside (option_copied start.file.now) (option_copied c.args.self.now.file.now) start.pending.now.items c.args.self.now.pending.now.items h i c.emitted.result.now t.file t.pending c.emitted.ensures t.wrote c.in-Ok.ensures c.in-Ok-write_line_if_named.ensures.0;
       statistics = λ e l.
           let s = t.statistics e (omega arith) in
           let k = countable_back h (omega arith) in
@@ -40,7 +40,7 @@ returns-in-Ok-write_line_if_named-clause-count g c =
 pub returns-in-Err-write_line_if_named-clause-took : goal.returns-in-Err-write_line_if_named-clause-took
 returns-in-Err-write_line_if_named-clause-took g c = λ start h t. record {
   outside_same = t.outside_same;
-  cut = item_cut_at_text g.O.Outside.view start.outside.now c.args.self.now.outside.now c.emit.new.outside c.write_line_if_named.new.outside (option_copied start.file.now) (option_copied c.args.self.now.file.now) start.pending.now.items c.args.self.now.pending.now.items h (item_of c.args.trace.now c.args.r.now) c.emitted.result.now c.in-Err-write_line_if_named.fault t.file t.pending c.emitted.ensures.blocks t.wrote c.in-Ok.ensures c.in-Err-write_line_if_named.ensures;
+  cut = item_cut_at_text g.O.Outside.view start.outside.now c.args.self.now.outside.now c.emit.new.outside c.write_line_if_named.new.outside (option_copied start.file.now) (option_copied c.args.self.now.file.now) start.pending.now.items c.args.self.now.pending.now.items h (item_of c.args.trace.now c.args.r.now) c.emitted.result.now c.in-Err-write_line_if_named.fault t.file t.pending c.emitted.ensures t.wrote c.in-Ok.ensures c.in-Err-write_line_if_named.ensures;
 }
 
 pub returns-in-Err-write_line_if_named-clause-count : goal.returns-in-Err-write_line_if_named-clause-count
