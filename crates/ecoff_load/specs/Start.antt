@@ -1,5 +1,5 @@
 -- The start block: the arguments as a program finds them on its stack.
-use Rattle.std.specs.Prelude.{◌≡◌, ◌+◌, ◌-◌, ◌*◌, ◌^◌, ◌<◌, ℕ, Bool, List, [], ◌∷◌, ◌++◌, length, take, map, min}
+use Rattle.std.specs.Prelude.{◌≡◌, ◌+◌, ◌-◌, ◌*◌, ◌^◌, ◌<◌, ◌≤◌, ℕ, Bool, List, [], ◌∷◌, ◌++◌, length, take, map, min}
 use Rattle.std.specs.List.{flat_map, range_with_len}
 use Rattle.ecoff_load.specs.Words.{word_bytes}
 use Rattle.ecoff_load.specs.declared.start.StartFault.{StartFault}
@@ -25,7 +25,8 @@ block_words args = length args ∷ map (pointer_to args) (range_with_len 0 (leng
 unfoldable pub block : Bool → List (List ℕ) → List ℕ
 block big args = flat_map (word_bytes big) (block_words args) ++ ended_strings args
 
--- why there is no block: it has more than 16,384 bytes, this many or more than a count can say
+-- why there is no block: it has more than 16,384 bytes, this many or more than a count can say; memory
+-- is wanted for a block that is short enough alone
 abbrev pub RefusesStart : List ℕ → StartFault → Type 0
 RefusesStart bytes (faults.TooLong count) = (16384 < length bytes) × (count ≡ min (length bytes) (2 ^ 64 - 1))
-RefusesStart bytes faults.OutOfMemory = Unit {0}
+RefusesStart bytes faults.OutOfMemory = length bytes ≤ 16384

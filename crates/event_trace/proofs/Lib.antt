@@ -11,3 +11,4 @@ pub mod ServedRecord
 pub mod Files
 pub mod WorldLawProofs
 pub mod Recording
+pub mod SetBack

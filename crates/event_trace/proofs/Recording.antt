@@ -1,5 +1,5 @@
 -- Records that are added to a trace.
-use Rattle.std.proofs.Common.{◌≡◌, ℕ, zero, suc, ◌+◌, ◌-◌, ◌%◌, ◌^◌, ◌≤◌, ◌<◌, Bool, true, false, min, Option, Some, None, Result, Ok, Err, IfOk, List, [], ◌∷◌, ◌++◌, length, position, nat_eq, nat_lt, nat_le, if◌then◌else◌, refl, sym, ap, ◌∙◌, subst, arith}
+use Rattle.std.proofs.Common.{◌≡◌, ℕ, ◌+◌, ◌-◌, ◌%◌, ◌^◌, ◌≤◌, ◌<◌, Bool, true, false, min, Option, Some, None, Result, Ok, Err, IfOk, List, [], ◌∷◌, ◌++◌, length, position, nat_eq, nat_lt, if◌then◌else◌, refl, sym, ap, ◌∙◌, subst, arith}
 use Rattle.std.specs.Int.{w32, to_le_bytes}
 use Rattle.std.specs.List.{flat_map}
 use Rattle.std.proofs.lemmas.List.{length-append, append-nil}
@@ -7,8 +7,8 @@ use Rattle.std.proofs.lemmas.List.Concat.{flat_map-append}
 use Rattle.ss_base.specs.declared.fault.OutOfMemory.{OutOfMemory}
 use Rattle.event_trace.specs.declared.trace.Record.{Record}
 use Rattle.event_trace.specs.declared.trace.Trace.{Trace}
-use Rattle.event_trace.specs.Grammar.{InTurn, IsRecord, IsTrace, next_record, record_bytes, start_bytes, trace_bytes, order_bytes, magic}
-use Rattle.event_trace.specs.World.{WorldState, read_count, read_left, read_call, left_at, count_of, write_count, write_record, open_bytes, open_call, path_bytes, close_open, close_call, open_at, break_call, exit_record, served}
+use Rattle.event_trace.specs.Grammar.{InTurn, IsRecord, IsTrace, next_record, record_bytes, start_bytes, order_bytes, magic}
+use Rattle.event_trace.specs.World.{WorldState, read_left, read_call, left_at, count_of, write_count, write_record, open_bytes, open_call, path_bytes, close_open, close_call, open_at, break_call, exit_record, served}
 use Rattle.event_trace.specs.Recorder.{RecorderState, with_more, next_count, trace_size, is_within_limits, Adds}
 
 -- ---- the count of a record

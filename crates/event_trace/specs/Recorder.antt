@@ -4,7 +4,7 @@ use Rattle.ss_base.specs.declared.fault.OutOfMemory.{OutOfMemory}
 use Rattle.event_trace.specs.declared.trace.Record.{Record}
 use Rattle.event_trace.specs.declared.trace.Trace.{Trace}
 use Rattle.event_trace.specs.Grammar.{trace_bytes, next_record}
-use Rattle.event_trace.specs.World.{WorldState, served}
+use Rattle.event_trace.specs.World.{WorldState}
 
 -- a world and the trace that was recorded so far
 pub record RecorderState : Type 0 where
@@ -32,13 +32,14 @@ abbrev pub next_count : ℕ → List Record → ℕ
 next_count least [] = least
 next_count least (r ∷ rs) = next_count (next_record r) rs
 
--- what comes of a call that a world answers with a record: the record is added, or would bring the
--- trace above its limits and isn't
+-- what comes of a call that a world answers with a record: the record is added and the next world is
+-- the one that the world left; or it would bring the trace above its limits, or memory runs out, and
+-- world and trace are as before
 abbrev pub Takes : Record × WorldState → RecorderState → RecorderState → Result Bool OutOfMemory → Type 0
 Takes answer old new (Ok true) =
     (new ≡ record { world = answer.1; trace = with_more old.trace (answer.0 ∷ []) }) × (is_within_limits (with_more old.trace (answer.0 ∷ [])) ≡ true)
-Takes answer old new (Ok false) = (new.trace ≡ old.trace) × (is_within_limits (with_more old.trace (answer.0 ∷ [])) ≡ false)
-Takes answer old new (Err _) = new.trace ≡ old.trace
+Takes answer old new (Ok false) = (new ≡ old) × (is_within_limits (with_more old.trace (answer.0 ∷ [])) ≡ false)
+Takes answer old new (Err _) = new ≡ old
 
 -- a record is added to a trace, or would bring it above its limits and isn't
 abbrev pub Adds : Record → RecorderState → RecorderState → Result Bool OutOfMemory → Type 0

@@ -47,6 +47,19 @@ start_world input files start_break = record {
   program_break = start_break;
 }
 
+-- what calls change of a world
+pub record ProgressState : Type 0 where
+  pub position : ℕ
+  pub opens : List Opened
+  pub program_break : ℕ
+
+abbrev pub progress_of : WorldState → ProgressState
+progress_of w = record { position = w.position; opens = w.opens; program_break = w.program_break }
+
+-- a world that is set to where another one was
+abbrev pub set_to : WorldState → ProgressState → WorldState
+set_to w at = record w { position = at.position; opens = at.opens; program_break = at.program_break }
+
 -- ---- records
 
 -- a call that gives register 2 a value, and register 7 a flag: 0 where the call was done, 1 where it was refused

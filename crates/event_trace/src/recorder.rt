@@ -62,8 +62,8 @@ fn record_length(alloc: Global, call: &Record) -> Result<u64, OutOfMemory>
 }
 
 impl Recorder {
-    #[tactic(auto, unfolding(crate::specs::Recorder::trace_size))]
     /// A world and a trace without records, of version 2 and this byte order.
+    #[tactic(auto, unfolding(crate::specs::Recorder::trace_size))]
     pub fn new(alloc: Global, world: World, big: bool) -> Recorder
         ensures { result ≡ record { world = world; trace = empty_trace big } }
     {
@@ -91,8 +91,8 @@ impl Recorder {
     /// before it, at least as many as the next record may have, and at most 10^15; it stands at
     /// `pc` and finds these registers and this memory.
     ///
-    /// False, and the trace is as before, exactly where the record would bring the trace above
-    /// 67,108,864 bytes or 1,000,000 records. Want of memory leaves the trace as it was.
+    /// False exactly where the record would bring the trace above 67,108,864 bytes or 1,000,000
+    /// records. The world and the trace are then as before, and so they are where memory runs out.
     pub fn serve(
         &mut self,
         alloc: Global,
@@ -106,9 +106,24 @@ impl Recorder {
         ensures served { Takes (served self.old.world icnt pc (slice_index regs.now) (byte_of mem.now)) self.old self.new result }
         ensures rising { IfOk result (λ _. next_count 0 self.new.trace.records ≤ icnt + 1) }
     {
-        match self.world.serve(alloc, icnt, pc, regs, mem) {
-            Ok(call) => self.add(alloc, call),
-            Err(fault) => Err(fault),
+        let before = match self.world.progress(alloc) {
+            Ok(before) => before,
+            Err(fault) => return Err(fault),
+        };
+        let call = match self.world.serve(alloc, icnt, pc, regs, mem) {
+            Ok(call) => call,
+            Err(fault) => return Err(fault),
+        };
+        match self.add(alloc, call) {
+            Ok(true) => Ok(true),
+            Ok(false) => {
+                self.world.set_back(before);
+                Ok(false)
+            }
+            Err(fault) => {
+                self.world.set_back(before);
+                Err(fault)
+            }
         }
     }
 

@@ -1,5 +1,7 @@
+ghost use Rattle.event_trace.specs.Grammar.{IsTrace};
+
 use crate::*;
-use std::test::Fail;
+use std::alloc::Global;
 
 /// An exit with code 7 after two instructions, which read two registers. Version 1.
 const ONE: [u8; 52] = [
@@ -20,166 +22,176 @@ const CALLS: [u8; 78] = [
     0, 0x18, 0, 0x40, 0, 0, 0, 0, 1, 0, 0, 0, 0, 0, 0, 0, 0, 2, 0, 0, 0, 9, 0, 0, 0,
 ];
 
+/// Whether the record is the exit that `ONE` and `TWO` hold.
+fn is_exit(record: &Record) -> bool {
+    let head = (record.icnt == 2) & (record.pc == 0x0040_0010) & (record.code == 7);
+    let ins = record.ins.as_slice() == [(2, 1), (4, 7)].as_slice();
+    head & ins & (record.kind == CallKind::Exit) & (record.outs.as_slice().len() == 0)
+}
+
+/// Whether the record is the output that `CALLS` holds.
+fn is_output(record: &Record) -> bool {
+    match record.in_blocks.as_slice() {
+        [block] => {
+            let bytes = block.bytes.as_slice() == b"hi".as_slice();
+            bytes & (block.addr == 0xffff_fffe) & (record.kind == CallKind::Emit)
+        }
+        _ => false,
+    }
+}
+
+/// Whether the records are the exit alone, or the output and one more.
+fn are_known(records: &[Record]) -> bool {
+    match records {
+        [exit] => is_exit(exit),
+        [output, last] => is_output(output) & (last.outs.as_slice() == [(2, 9)].as_slice()),
+        _ => false,
+    }
+}
+
+/// Whether a trace has this version and order and the known records, and belongs to objects of its
+/// order alone.
+fn is_trace(trace: &Trace, version: u8, big: bool) -> bool {
+    let head = trace.file & (trace.version == version) & (trace.big == big);
+    head & (trace.agrees(false) != big)
+        & (trace.agrees(true) == big)
+        & are_known(trace.records.as_slice())
+}
+
+/// Whether a trace is written as these bytes.
+fn is_written(alloc: Global, trace: &Trace, bytes: &[u8]) -> bool
+    requires { IsTrace trace.now }
+{
+    match write(alloc, trace) {
+        Ok(written) => written.as_slice() == bytes,
+        Err(_) => false,
+    }
+}
+
+/// Whether these bytes are read as a trace of this version and order, and written as they stood.
+fn comes_back(alloc: Global, bytes: &[u8], version: u8, big: bool) -> bool {
+    match read(alloc, bytes) {
+        Ok(trace) => is_trace(&trace, version, big) & is_written(alloc, &trace, bytes),
+        Err(_) => false,
+    }
+}
+
 #[test]
-fn traces_are_read_and_written_as_they_stood(rt: HostRuntime) -> Result<(), Fail> {
-    for (bytes, version, big, count) in [
-        (ONE.as_slice(), 1, false, 1),
-        (TWO.as_slice(), 2, true, 1),
-        (CALLS.as_slice(), 1, false, 2),
-    ] {
-        let trace = read(rt.alloc(), bytes)?;
-        assert!(rt; trace.file);
-        assert_eq!(rt; trace.version, version);
-        assert_eq!(rt; trace.big, big);
-        assert_eq!(rt; trace.records.as_slice().len(), count);
-        for (asked, fits) in [(false, !big), (true, big)] {
-            assert_eq!(rt; trace.agrees(asked), fits);
-        }
-        assert!(rt; write(rt.alloc(), &trace)?.as_slice() == bytes);
-    }
-    let mut longer = Vec::from_slice(rt.alloc(), &ONE)?;
-    longer.push(0)?;
-    assert_eq!(rt;
-        read(rt.alloc(), longer.as_slice()).err(),
-        Some(TraceFault::Bad {
-            at: 52,
-            why: TraceWhy::Extra
-        })
-    );
+fn traces_are_read_and_written_as_they_stood(rt: HostRuntime) {
+    let one = comes_back(rt.alloc(), &ONE, 1, false);
+    let two = comes_back(rt.alloc(), &TWO, 2, true);
+    let calls = comes_back(rt.alloc(), &CALLS, 1, false);
     let absent = Trace::absent(rt.alloc());
-    assert!(rt; absent.agrees(false) && absent.agrees(true));
-    let exit = read(rt.alloc(), &ONE)?;
-    for record in exit.records.as_slice() {
-        assert_eq!(rt; record.icnt, 2);
-        assert_eq!(rt; record.pc, 0x0040_0010);
-        assert_eq!(rt; record.kind, CallKind::Exit);
-        assert_eq!(rt; record.code, 7);
-        assert!(rt; record.ins.as_slice() == [(2, 1), (4, 7)].as_slice());
-        assert_eq!(rt; record.outs.as_slice().len(), 0);
+    let agrees = absent.agrees(false) & absent.agrees(true);
+    assert!(rt; one & two & calls & agrees);
+}
+
+/// Whether these bytes are refused, at this place and for this reason.
+fn is_refused(alloc: Global, bytes: &[u8], at: u64, why: TraceWhy) -> bool {
+    match read(alloc, bytes) {
+        Ok(_) => false,
+        Err(fault) => fault == TraceFault::Bad { at, why },
     }
-    let calls = read(rt.alloc(), &CALLS)?;
-    for record in calls.records.as_slice() {
-        for block in record.in_blocks.as_slice() {
-            assert_eq!(rt; block.addr, 0xffff_fffe);
-            assert!(rt; block.bytes.as_slice() == b"hi".as_slice());
+}
+
+/// The place of a byte, what is put there, and the refusal.
+type Check = (usize, u8, u64, TraceWhy);
+
+const CHECKS_OF_ONE: [Check; 21] = [
+    (0, 81, 0, TraceWhy::Magic),
+    (7, 51, 0, TraceWhy::Magic),
+    (8, 2, 52, TraceWhy::Short),
+    (8, 0, 12, TraceWhy::Extra),
+    (10, 16, 8, TraceWhy::Count),
+    (19, 1, 12, TraceWhy::Order),
+    (24, 3, 24, TraceWhy::Kind),
+    (24, 0, 32, TraceWhy::Exit),
+    (25, 9, 25, TraceWhy::Many),
+    (25, 1, 44, TraceWhy::Extra),
+    (26, 17, 26, TraceWhy::Many),
+    (26, 1, 52, TraceWhy::Short),
+    (27, 9, 27, TraceWhy::Many),
+    (27, 1, 27, TraceWhy::Exit),
+    (28, 17, 28, TraceWhy::Many),
+    (28, 1, 27, TraceWhy::Exit),
+    (29, 1, 29, TraceWhy::Pad),
+    (31, 1, 29, TraceWhy::Pad),
+    (36, 0, 36, TraceWhy::Register),
+    (36, 32, 36, TraceWhy::Register),
+    (44, 2, 44, TraceWhy::Register),
+];
+
+const CHECKS_OF_TWO: [Check; 3] = [
+    (12, 2, 12, TraceWhy::ByteOrder),
+    (15, 1, 12, TraceWhy::ByteOrder),
+    (28, 3, 28, TraceWhy::Kind),
+];
+
+const CHECKS_OF_CALLS: [Check; 6] = [
+    (36, 0xff, 36, TraceWhy::Block),
+    (40, 0, 36, TraceWhy::Block),
+    (42, 1, 36, TraceWhy::Block),
+    (46, 5, 46, TraceWhy::Order),
+    (46, 4, 46, TraceWhy::Order),
+    (66, 1, 66, TraceWhy::Exit),
+];
+
+/// Whether these bytes are refused as the rows say, each with its one byte changed.
+fn are_refused<const N: usize>(alloc: Global, bytes: [u8; N], checks: &[Check]) -> bool {
+    let mut all = true;
+    for check in checks {
+        let (place, byte, at, why) = *check;
+        let mut changed = bytes;
+        if let Some(slot) = changed.get_mut(place) {
+            *slot = byte;
         }
+        all = all & is_refused(alloc, &changed, at, why);
     }
-    Ok(())
+    all
 }
 
 #[test]
 fn each_check_has_its_place_and_reason(rt: HostRuntime) {
-    // the place of a byte, what is put there, and the refusal
-    for (place, byte, at, why) in [
-        (0, 81, 0, TraceWhy::Magic),
-        (7, 51, 0, TraceWhy::Magic),
-        (8, 2, 52, TraceWhy::Short),
-        (8, 0, 12, TraceWhy::Extra),
-        (10, 16, 8, TraceWhy::Count),
-        (19, 1, 12, TraceWhy::Order),
-        (24, 3, 24, TraceWhy::Kind),
-        (24, 0, 32, TraceWhy::Exit),
-        (25, 9, 25, TraceWhy::Many),
-        (25, 1, 44, TraceWhy::Extra),
-        (26, 17, 26, TraceWhy::Many),
-        (26, 1, 52, TraceWhy::Short),
-        (27, 9, 27, TraceWhy::Many),
-        (27, 1, 27, TraceWhy::Exit),
-        (28, 17, 28, TraceWhy::Many),
-        (28, 1, 27, TraceWhy::Exit),
-        (29, 1, 29, TraceWhy::Pad),
-        (31, 1, 29, TraceWhy::Pad),
-        (36, 0, 36, TraceWhy::Register),
-        (36, 32, 36, TraceWhy::Register),
-        (44, 2, 44, TraceWhy::Register),
-    ] {
-        let mut bytes = ONE;
-        if let Some(slot) = bytes.get_mut(place) {
-            *slot = byte;
-        }
-        assert_eq!(rt;
-            read(rt.alloc(), &bytes).err(),
-            Some(TraceFault::Bad { at, why }),
-            "{place}"
-        );
+    let one = are_refused(rt.alloc(), ONE, &CHECKS_OF_ONE);
+    let two = are_refused(rt.alloc(), TWO, &CHECKS_OF_TWO);
+    let calls = are_refused(rt.alloc(), CALLS, &CHECKS_OF_CALLS);
+    assert!(rt; one & two & calls);
+}
+
+/// Whether each front of these bytes is short at its end.
+fn fronts_are_short(alloc: Global, bytes: &[u8]) -> bool {
+    let mut all = true;
+    for length in 0..bytes.len() {
+        all = all & is_refused(alloc, &bytes[..length], length as u64, TraceWhy::Short);
     }
-    for (place, byte, at, why) in [
-        (12, 2, 12, TraceWhy::ByteOrder),
-        (15, 1, 12, TraceWhy::ByteOrder),
-        (28, 3, 28, TraceWhy::Kind),
-    ] {
-        let mut bytes = TWO;
-        if let Some(slot) = bytes.get_mut(place) {
-            *slot = byte;
-        }
-        assert_eq!(rt;
-            read(rt.alloc(), &bytes).err(),
-            Some(TraceFault::Bad { at, why }),
-            "{place}"
-        );
+    all
+}
+
+/// A number of records, low byte first, that the file does not bring, and the refusal where `ONE`
+/// tells it and where nothing follows.
+const COUNTS: [([u8; 4], u64, u64, TraceWhy); 3] = [
+    ([0x40, 0x42, 0x0f, 0], 12, 52, TraceWhy::Short),
+    ([0x41, 0x42, 0x0f, 0], 8, 8, TraceWhy::Count),
+    ([0xff, 0xff, 0xff, 0xff], 8, 8, TraceWhy::Count),
+];
+
+/// Whether numbers of records that are not there are refused, and a byte behind the last record.
+fn counts_are_judged(alloc: Global) -> bool {
+    let mut all = true;
+    for (count, at, whole_at, why) in COUNTS {
+        let [a, b, c, d] = count;
+        let mut whole = ONE;
+        whole[8..12].copy_from_slice(&count);
+        let start = [80, 69, 88, 84, 48, 48, 48, 49, a, b, c, d];
+        all = all & is_refused(alloc, &whole, whole_at, why) & is_refused(alloc, &start, at, why);
     }
-    for (place, byte, at, why) in [
-        (36, 0xff, 36, TraceWhy::Block),
-        (40, 0, 36, TraceWhy::Block),
-        (42, 1, 36, TraceWhy::Block),
-        (46, 5, 46, TraceWhy::Order),
-        (46, 4, 46, TraceWhy::Order),
-        (66, 1, 66, TraceWhy::Exit),
-    ] {
-        let mut bytes = CALLS;
-        if let Some(slot) = bytes.get_mut(place) {
-            *slot = byte;
-        }
-        assert_eq!(rt;
-            read(rt.alloc(), &bytes).err(),
-            Some(TraceFault::Bad { at, why }),
-            "{place}"
-        );
-    }
+    let mut longer = [0; 53];
+    longer[..52].copy_from_slice(&ONE);
+    all & is_refused(alloc, &longer, 52, TraceWhy::Extra)
 }
 
 #[test]
 fn what_is_cut_off_is_short_at_its_end(rt: HostRuntime) {
-    for length in 0..52 {
-        let fault = read(rt.alloc(), &ONE[..length]).err();
-        assert_eq!(rt;
-            fault,
-            Some(TraceFault::Bad {
-                at: length as u64,
-                why: TraceWhy::Short
-            })
-        );
-    }
-    for length in 0..56 {
-        let fault = read(rt.alloc(), &TWO[..length]).err();
-        assert_eq!(rt;
-            fault,
-            Some(TraceFault::Bad {
-                at: length as u64,
-                why: TraceWhy::Short
-            })
-        );
-    }
-    // a number of records, low byte first, that the file does not bring
-    for (count, at, whole_at, why) in [
-        ([0x40, 0x42, 0x0f, 0], 12, 52, TraceWhy::Short),
-        ([0x41, 0x42, 0x0f, 0], 8, 8, TraceWhy::Count),
-        ([0xff, 0xff, 0xff, 0xff], 8, 8, TraceWhy::Count),
-    ] {
-        let [a, b, c, d] = count;
-        let mut whole = ONE;
-        whole[8] = a;
-        whole[9] = b;
-        whole[10] = c;
-        whole[11] = d;
-        assert_eq!(rt;
-            read(rt.alloc(), &whole).err(),
-            Some(TraceFault::Bad { at: whole_at, why })
-        );
-        let bytes = [80, 69, 88, 84, 48, 48, 48, 49, a, b, c, d];
-        assert_eq!(rt;
-            read(rt.alloc(), &bytes).err(),
-            Some(TraceFault::Bad { at, why })
-        );
-    }
+    let fronts = fronts_are_short(rt.alloc(), &ONE) & fronts_are_short(rt.alloc(), &TWO);
+    assert!(rt; fronts & counts_are_judged(rt.alloc()));
 }

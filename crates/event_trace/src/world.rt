@@ -2,7 +2,7 @@
 ghost use Rattle.std.specs.Prelude.{◌≡◌, ℕ, ◌+◌, ◌-◌, ◌^◌, bytes_eq, string_bytes, ◌<◌, ◌≤◌, Some, None, drop, take, length, nat_eq, position, slice_get, slice_index, option_copied, vec_len, IfSome, OnOk, IfOk, OnErr};
 ghost use Rattle.paged_mem.specs.Memory.{byte_of};
 ghost use Rattle.event_trace.specs.Grammar.{IsRecord};
-ghost use Rattle.event_trace.specs.World.{files_of, start_world, open_at, left_at, position_at, advanced, read_call, file_named, bytes_of, open_answer, with_opens, open_bytes, open_call, close_call, break_call, served};
+ghost use Rattle.event_trace.specs.World.{files_of, start_world, open_at, left_at, position_at, advanced, read_call, file_named, bytes_of, open_answer, with_opens, open_bytes, open_call, close_call, break_call, served, progress_of, set_to};
 
 use crate::answers::{
     MEMORY_END, MOST_BYTES, answer, answer_path, copy_path, exit, read_bytes, read_one, read_three,
@@ -39,6 +39,22 @@ impl Model for Open {
     ghost view = { λ o. record { file = o.file; position = o.position; is_open = o.is_open } };
 
     ghost inverse = { λ v. record { file = v.file; position = v.position; is_open = v.is_open } };
+}
+
+/// What calls change of a world.
+#[derive(Drop)]
+pub struct Progress {
+    position: usize,
+    opens: Vec<Open>,
+    program_break: u32,
+}
+
+impl Model for Progress {
+    ghost use Rattle.event_trace.specs.World.{ProgressState};
+
+    ghost Value = { ProgressState };
+
+    ghost view = { λ p. record { position = p.position; opens = p.opens.items; program_break = p.program_break } };
 }
 
 /// What answers the system calls of a run that is recorded: an input, files that may be opened, and
@@ -108,6 +124,26 @@ impl World {
             start_break,
             program_break: start_break,
         }
+    }
+
+    /// Where the calls so far have brought this world.
+    pub(crate) fn progress(&self, alloc: Global) -> Result<Progress, OutOfMemory>
+        ensures { IfOk result (λ at. at ≡ progress_of self.now) }
+    {
+        Ok(Progress {
+            position: self.position,
+            opens: Vec::from_slice(alloc, self.opens.as_slice())?,
+            program_break: self.program_break,
+        })
+    }
+
+    /// Sets the world to where it was.
+    pub(crate) fn set_back(&mut self, at: Progress)
+        ensures { self.new ≡ set_to self.old at }
+    {
+        self.position = at.position;
+        self.opens = at.opens;
+        self.program_break = at.program_break;
     }
 
     /// The record of a call: `icnt` instructions were done before it, it stands at `pc`, and finds

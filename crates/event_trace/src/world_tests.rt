@@ -1,8 +1,10 @@
+ghost use Rattle.std.specs.Prelude.{◌^◌, ◌≤◌, IsTrue};
+ghost use Rattle.event_trace.specs.Recorder.{next_count};
+
 use crate::*;
 use paged_mem::PagedMem;
+use ss_base::OutOfMemory;
 use std::alloc::{AllocError, Global};
-use std::process::Abort;
-use std::test::Fail;
 
 // Registers 2, 4, 5 and 6 of a call.
 fn registers(call: [u32; 4]) -> [u32; 32] {
@@ -13,54 +15,6 @@ fn registers(call: [u32; 4]) -> [u32; 32] {
     regs[5] = second;
     regs[6] = third;
     regs
-}
-
-// Whether there is just this block, or none where it would have no bytes.
-fn is_block(blocks: &[Block], place: Place) -> bool {
-    let (addr, bytes) = place;
-    match blocks {
-        [] => bytes.len() == 0,
-        [block] => bytes.len() > 0 && block.addr == addr && block.bytes.as_slice() == bytes,
-        _ => false,
-    }
-}
-
-// Reserves the bytes' place and writes them.
-fn put(rt: &impl Abort, memory: &mut PagedMem, addr: u32, bytes: &[u8]) -> Result<(), Fail> {
-    assert!(rt; bytes.len() <= 0x1_0000);
-    assert!(rt; u64::from(addr) + bytes.len() as u64 <= 0x1_0000_0000);
-    memory.reserve(addr, bytes.len() as u32)?;
-    memory.write(addr, bytes);
-    Ok(())
-}
-
-// Paths, among them one without an end, one of 255 bytes, and one at the end of memory.
-fn memory(rt: &impl Abort, alloc: Global) -> Result<PagedMem, Fail> {
-    let mut memory = PagedMem::new(alloc);
-    put(rt, &mut memory, 0x1000, b"a\0")?;
-    put(rt, &mut memory, 0x1010, b"bc\0")?;
-    put(rt, &mut memory, 0x1020, b"b\0")?;
-    put(rt, &mut memory, 0x2000, &[120; 511])?;
-    put(rt, &mut memory, 0x1000_0000, b"hello\n")?;
-    put(rt, &mut memory, 0xffff_fffd, b"bc\0")?;
-    Ok(memory)
-}
-
-fn file(alloc: Global, name: &str, bytes: &[u8]) -> Result<(String, Vec<u8>), AllocError> {
-    Ok((
-        String::from_str(alloc, name)?,
-        Vec::from_slice(alloc, bytes)?,
-    ))
-}
-
-// An input and three files, two of them with one name.
-fn world(alloc: Global) -> Result<World, AllocError> {
-    let mut files = Vec::new(alloc);
-    files.push(file(alloc, "a", b"first")?)?;
-    files.push(file(alloc, "bc", b"some bytes")?)?;
-    files.push(file(alloc, "a", b"second")?)?;
-    let input = Vec::from_slice(alloc, b"abc")?;
-    Ok(World::new(alloc, input, files, 0x1000_9040))
 }
 
 // An address, and bytes of a block there; no block where there are none.
@@ -204,67 +158,129 @@ const CALLS: [Row; 43] = [
     ([7, 0, 0, 0], PLAIN, 1, 22, 1, NONE, NONE),
 ];
 
-// Serves a call and compares its record.
-fn serve_row(
-    rt: &impl Abort,
+// Whether there is just this block, or none where it would have no bytes.
+fn is_block(blocks: &[Block], place: Place) -> bool {
+    let (addr, bytes) = place;
+    match blocks {
+        [] => bytes.len() == 0,
+        [block] => {
+            let same = block.bytes.as_slice() == bytes;
+            same & (bytes.len() > 0) & (block.addr == addr)
+        }
+        _ => false,
+    }
+}
+
+// Reserves the bytes' place and writes them; a block of more than 65,536 bytes, or one that would end
+// above memory's end, is none.
+fn put(memory: &mut PagedMem, addr: u32, bytes: &[u8]) -> Result<(), OutOfMemory> {
+    if bytes.len() > 0x1_0000 || u64::from(addr) + bytes.len() as u64 > 0x1_0000_0000 {
+        return Ok(());
+    }
+    memory.reserve(addr, bytes.len() as u32)?;
+    memory.write(addr, bytes);
+    Ok(())
+}
+
+// Paths, among them one without an end, one of 255 bytes, and one at the end of memory.
+fn put_paths(memory: &mut PagedMem) -> Result<(), OutOfMemory> {
+    put(memory, 0x1000, b"a\0")?;
+    put(memory, 0x1010, b"bc\0")?;
+    put(memory, 0x1020, b"b\0")?;
+    put(memory, 0x2000, &[120; 511])?;
+    put(memory, 0x1000_0000, b"hello\n")?;
+    put(memory, 0xffff_fffd, b"bc\0")
+}
+
+// Adds a file to those that may be opened.
+fn add_file(
     alloc: Global,
-    world: &mut World,
-    memory: &PagedMem,
-    row: &Row,
-) -> Result<(), Fail> {
+    files: &mut Vec<(String, Vec<u8>)>,
+    name: &str,
+    bytes: &[u8],
+) -> Result<(), AllocError> {
+    let name = String::from_str(alloc, name)?;
+    let bytes = Vec::from_slice(alloc, bytes)?;
+    files.push((name, bytes))?;
+    Ok(())
+}
+
+// Three files, two of them with one name.
+fn add_files(alloc: Global, files: &mut Vec<(String, Vec<u8>)>) -> Result<(), AllocError> {
+    add_file(alloc, files, "a", b"first")?;
+    add_file(alloc, files, "bc", b"some bytes")?;
+    add_file(alloc, files, "a", b"second")
+}
+
+// An input and three files.
+fn world(alloc: Global) -> Result<World, AllocError> {
+    let mut files = Vec::new(alloc);
+    add_files(alloc, &mut files)?;
+    let input = Vec::from_slice(alloc, b"abc")?;
+    Ok(World::new(alloc, input, files, 0x1000_9040))
+}
+
+// Whether a record is that of a row's call.
+fn is_row(record: &Record, row: &Row) -> bool {
     let (call, kind, reads, value, flag, from, to) = *row;
     let [number, first, second, third] = call;
-    let record = world.serve(alloc, 5, 0x0040_0028, &registers(call), memory)?;
-    assert_eq!(rt; record.icnt, 5);
-    assert_eq!(rt; record.pc, 0x0040_0028);
-    assert_eq!(rt; record.kind, kind, "{number} {first:x} {second:x}");
-    assert_eq!(rt; record.code, 0);
-    assert!(rt; reads <= 4);
     let ins = [(2, number), (4, first), (5, second), (6, third)];
-    assert!(rt;
-        record.ins.as_slice() == &ins[..reads],
-        "{number} {first:x} {second:x}"
-    );
-    let outs = [(2, value), (7, flag)];
-    assert!(rt;
-        record.outs.as_slice() == outs.as_slice(),
-        "{number} {first:x} {second:x}"
-    );
-    assert!(rt;
-        is_block(record.in_blocks.as_slice(), from),
-        "{number} {first:x} {second:x}"
-    );
-    assert!(rt;
-        is_block(record.out_blocks.as_slice(), to),
-        "{number} {first:x} {second:x}"
-    );
-    Ok(())
+    let read = record.ins.as_slice() == &ins[..reads.min(4)];
+    let written = record.outs.as_slice() == [(2, value), (7, flag)].as_slice();
+    let got = is_block(record.in_blocks.as_slice(), from);
+    let put = is_block(record.out_blocks.as_slice(), to);
+    read & written & got & put & (record.kind == kind) & (record.code == 0)
 }
 
-#[test]
-fn each_call_and_each_error_is_answered_as_the_table_says(rt: HostRuntime) -> Result<(), Fail> {
-    let memory = memory(&rt, rt.alloc())?;
-    let mut world = world(rt.alloc())?;
-    for row in &CALLS {
-        serve_row(&rt, rt.alloc(), &mut world, &memory, row)?;
+// Whether a world answers the calls, in turn, as the rows say.
+fn answers(alloc: Global, world: &mut World, memory: &PagedMem, rows: &[Row]) -> bool {
+    let mut all = true;
+    for row in rows {
+        all = all
+            & match world.serve(alloc, 5, 0x0040_0028, &registers(row.0), memory) {
+                Ok(record) => {
+                    is_row(&record, row) & (record.icnt == 5) & (record.pc == 0x0040_0028)
+                }
+                Err(_) => false,
+            };
     }
-    Ok(())
+    all
 }
 
 #[test]
-fn an_exit_is_recorded_byte_for_byte(rt: HostRuntime) -> Result<(), Fail> {
-    let memory = memory(&rt, rt.alloc())?;
-    let mut recorder = Recorder::new(rt.alloc(), world(rt.alloc())?, true);
-    let added = recorder.serve(
-        rt.alloc(),
-        2,
-        0x0040_0010,
-        &registers([1, 7, 0, 0]),
-        &memory,
-    )?;
-    assert!(rt; added);
-    assert!(rt; write(rt.alloc(), recorder.trace())?.as_slice() == tests::TWO.as_slice());
-    Ok(())
+fn each_call_and_each_error_is_answered_as_the_table_says(rt: HostRuntime) {
+    let mut memory = PagedMem::new(rt.alloc());
+    let put = put_paths(&mut memory).is_ok();
+    let answered = match world(rt.alloc()) {
+        Ok(mut world) => answers(rt.alloc(), &mut world, &memory, &CALLS),
+        Err(_) => false,
+    };
+    assert!(rt; put & answered);
+}
+
+// Whether a recorder that serves an exit then has the trace of it, byte for byte.
+fn records_exit(alloc: Global, recorder: &mut Recorder, memory: &PagedMem) -> bool
+    requires { next_count 0 recorder.old.trace.records ≤ 2 }
+{
+    let added = recorder.serve(alloc, 2, 0x0040_0010, &registers([1, 7, 0, 0]), memory);
+    let written = match write(alloc, recorder.trace()) {
+        Ok(bytes) => bytes.as_slice() == tests::TWO.as_slice(),
+        Err(_) => false,
+    };
+    written & (added == Ok(true))
+}
+
+#[test]
+fn an_exit_is_recorded_byte_for_byte(rt: HostRuntime) {
+    let memory = PagedMem::new(rt.alloc());
+    let recorded = match world(rt.alloc()) {
+        Ok(world) => {
+            let mut recorder = Recorder::new(rt.alloc(), world, true);
+            records_exit(rt.alloc(), &mut recorder, &memory)
+        }
+        Err(_) => false,
+    };
+    assert!(rt; recorded);
 }
 
 // Instructions done, pc, and registers 2, 4, 5 and 6; the kind, registers 2 and 7 after the call, what
@@ -304,21 +320,33 @@ const WORKED: [(u64, u32, [u32; 4], CallKind, u32, u32, Place, Place); 4] = [
     ),
 ];
 
-#[test]
-fn worked_calls_are_recorded_as_they_stand(rt: HostRuntime) -> Result<(), Fail> {
-    let memory = memory(&rt, rt.alloc())?;
-    let mut world = world(rt.alloc())?;
+// Whether a world answers the worked calls, in turn.
+fn answers_worked(alloc: Global, world: &mut World, memory: &PagedMem) -> bool {
+    let mut all = true;
     for (icnt, pc, call, kind, value, flag, from, to) in WORKED {
-        let record = world.serve(rt.alloc(), icnt, pc, &registers(call), &memory)?;
-        assert_eq!(rt; record.icnt, icnt);
-        assert_eq!(rt; record.pc, pc);
-        assert_eq!(rt; record.kind, kind, "{icnt}");
-        assert_eq!(rt; effect(&record).0, value, "{icnt}");
-        assert_eq!(rt; effect(&record).1, flag, "{icnt}");
-        assert!(rt; is_block(record.in_blocks.as_slice(), from), "{icnt}");
-        assert!(rt; is_block(record.out_blocks.as_slice(), to), "{icnt}");
+        let answered = match world.serve(alloc, icnt, pc, &registers(call), memory) {
+            Ok(record) => {
+                let got = is_block(record.in_blocks.as_slice(), from);
+                let put = is_block(record.out_blocks.as_slice(), to);
+                let outs = record.outs.as_slice() == [(2, value), (7, flag)].as_slice();
+                got & put & outs & (record.icnt == icnt) & (record.pc == pc) & (record.kind == kind)
+            }
+            Err(_) => false,
+        };
+        all = all & answered;
     }
-    Ok(())
+    all
+}
+
+#[test]
+fn worked_calls_are_recorded_as_they_stand(rt: HostRuntime) {
+    let mut memory = PagedMem::new(rt.alloc());
+    let put = put_paths(&mut memory).is_ok();
+    let answered = match world(rt.alloc()) {
+        Ok(mut world) => answers_worked(rt.alloc(), &mut world, &memory),
+        Err(_) => false,
+    };
+    assert!(rt; put & answered);
 }
 
 // Registers 2 and 7 after a call, and how many bytes it reads and writes.
@@ -355,29 +383,146 @@ const LIMITS: [([u32; 4], (u32, u32, usize, usize)); 9] = [
     ([5, 0xffff_ffff, 0, 0], (14, 1, 0, 0)),
 ];
 
-#[test]
-fn lengths_paths_and_opens_have_their_limits(rt: HostRuntime) -> Result<(), Fail> {
-    let alloc = rt.alloc();
-    let mut memory = memory(&rt, alloc)?;
-    // the last byte of a longest path
-    put(&rt, &mut memory, 0x20ff, &[0])?;
-    put(&rt, &mut memory, 0xffff_ffff, &[120])?;
-    let mut files = Vec::new(alloc);
-    files.push(file(alloc, "a", b"x")?)?;
-    let input = vec![in alloc; 7; 70_000]?;
-    let mut world = World::new(alloc, input, files, 0x1000_0000);
+// Whether a call has this effect.
+fn has_effect(
+    alloc: Global,
+    world: &mut World,
+    memory: &PagedMem,
+    call: [u32; 4],
+    want: (u32, u32, usize, usize),
+) -> bool {
+    match world.serve(alloc, 0, 0, &registers(call), memory) {
+        Ok(record) => effect(&record) == want,
+        Err(_) => false,
+    }
+}
+
+// Whether lengths and paths are cut where the table says, and whether 16 opens get a descriptor.
+fn limits_hold(alloc: Global, world: &mut World, memory: &PagedMem) -> bool {
+    let mut all = true;
     for (call, want) in LIMITS {
-        let [number, first, ..] = call;
-        let record = world.serve(alloc, 0, 0, &registers(call), &memory)?;
-        assert_eq!(rt; effect(&record), want, "{number} {first:x}");
+        all = all & has_effect(alloc, world, memory, call, want);
     }
     for descriptor in 3..19 {
-        let record = world.serve(alloc, 0, 0, &registers([5, 0x1000, 0, 0]), &memory)?;
-        assert_eq!(rt; effect(&record), (descriptor, 0, 2, 0));
-        let closed = world.serve(alloc, 0, 0, &registers([6, descriptor, 0, 0]), &memory)?;
-        assert_eq!(rt; effect(&closed), (0, 0, 0, 0));
+        let opened = has_effect(
+            alloc,
+            world,
+            memory,
+            [5, 0x1000, 0, 0],
+            (descriptor, 0, 2, 0),
+        );
+        let closed = has_effect(alloc, world, memory, [6, descriptor, 0, 0], (0, 0, 0, 0));
+        all = all & opened & closed;
     }
-    let record = world.serve(alloc, 0, 0, &registers([5, 0x1000, 0, 0]), &memory)?;
-    assert_eq!(rt; effect(&record), (24, 1, 2, 0));
-    Ok(())
+    all & has_effect(alloc, world, memory, [5, 0x1000, 0, 0], (24, 1, 2, 0))
+}
+
+// A file and a long input.
+fn long_world(alloc: Global) -> Result<World, AllocError> {
+    let mut files = Vec::new(alloc);
+    add_file(alloc, &mut files, "a", b"x")?;
+    let input = vec![in alloc; 7; 70_000]?;
+    Ok(World::new(alloc, input, files, 0x1000_0000))
+}
+
+#[test]
+fn lengths_paths_and_opens_have_their_limits(rt: HostRuntime) {
+    let mut memory = PagedMem::new(rt.alloc());
+    let paths = put_paths(&mut memory).is_ok();
+    // the last byte of a longest path, and one that no zero follows
+    let zero = put(&mut memory, 0x20ff, &[0]).is_ok();
+    let last = put(&mut memory, 0xffff_ffff, &[120]).is_ok();
+    let held = match long_world(rt.alloc()) {
+        Ok(mut world) => limits_hold(rt.alloc(), &mut world, &memory),
+        Err(_) => false,
+    };
+    assert!(rt; paths & zero & last & held);
+}
+
+// Serves one call again and again, and answers whether each record was added.
+fn all_added(
+    alloc: Global,
+    recorder: &mut Recorder,
+    memory: &PagedMem,
+    count: u64,
+    call: [u32; 4],
+) -> bool
+    requires count { count ≤ 10 ^ 15 }
+    requires rising { next_count 0 recorder.old.trace.records ≤ 0 }
+    ensures { IsTrue result → next_count 0 recorder.new.trace.records ≤ count }
+{
+    let regs = registers(call);
+    for icnt in 0..count {
+        let Ok(true) = recorder.serve(alloc, icnt, 0x0040_0000, &regs, memory) else {
+            return false;
+        };
+    }
+    true
+}
+
+// A head of 24 bytes, registers of 8 bytes each, and a block's head and bytes: 65,616 bytes for an
+// output of 65,536 bytes. 1,022 of these leave 49,296 bytes behind the first 16, an output of 49,216.
+fn fills_all_bytes(alloc: Global, recorder: &mut Recorder, memory: &PagedMem) -> bool
+    requires { next_count 0 recorder.old.trace.records ≤ 0 }
+{
+    if !all_added(alloc, recorder, memory, 1_022, [4, 1, 0x2000_0000, 65_536]) {
+        return false;
+    }
+    let more = registers([4, 1, 0x2000_0000, 49_217]);
+    let Ok(false) = recorder.serve(alloc, 1_022, 0x0040_0000, &more, memory) else {
+        return false;
+    };
+    let rest = registers([4, 1, 0x2000_0000, 49_216]);
+    let Ok(true) = recorder.serve(alloc, 1_023, 0x0040_0000, &rest, memory) else {
+        return false;
+    };
+    let next = registers([99, 0, 0, 0]);
+    recorder.serve(alloc, 1_024, 0x0040_0000, &next, memory) == Ok(false)
+}
+
+// 1,000,000 calls of 48 bytes each.
+fn fills_all_records(alloc: Global, recorder: &mut Recorder, memory: &PagedMem) -> bool
+    requires { next_count 0 recorder.old.trace.records ≤ 0 }
+{
+    if !all_added(alloc, recorder, memory, 1_000_000, [99, 0, 0, 0]) {
+        return false;
+    }
+    let next = registers([99, 0, 0, 0]);
+    recorder.serve(alloc, 1_000_000, 0x0040_0000, &next, memory) == Ok(false)
+}
+
+// Whether so many bytes are a trace of so many records.
+fn holds_records(alloc: Global, bytes: &[u8], count: usize) -> bool {
+    match read(alloc, bytes) {
+        Ok(trace) => trace.records.as_slice().len() == count,
+        Err(_) => false,
+    }
+}
+
+// Whether a recorder's trace is written as so many bytes, which are read as so many records.
+fn comes_back(alloc: Global, recorder: &Recorder, length: usize, count: usize) -> bool {
+    match write(alloc, recorder.trace()) {
+        Ok(bytes) => (bytes.len() == length) & holds_records(alloc, bytes.as_slice(), count),
+        Err(_) => false,
+    }
+}
+
+#[test]
+fn the_longest_trace_is_recorded_written_and_read(rt: HostRuntime) {
+    let memory = PagedMem::new(rt.alloc());
+    let world = World::new(rt.alloc(), Vec::new(rt.alloc()), Vec::new(rt.alloc()), 0);
+    let mut recorder = Recorder::new(rt.alloc(), world, false);
+    let full = fills_all_bytes(rt.alloc(), &mut recorder, &memory);
+    let back = comes_back(rt.alloc(), &recorder, 67_108_864, 1_023);
+    assert!(rt; full & back);
+}
+
+#[test]
+fn a_trace_of_most_records_is_recorded_written_and_read(rt: HostRuntime) {
+    let memory = PagedMem::new(rt.alloc());
+    let world = World::new(rt.alloc(), Vec::new(rt.alloc()), Vec::new(rt.alloc()), 0);
+    let mut recorder = Recorder::new(rt.alloc(), world, false);
+    let full = fills_all_records(rt.alloc(), &mut recorder, &memory);
+    let back = comes_back(rt.alloc(), &recorder, 48_000_016, 1_000_000);
+    assert!(rt; full & back);
 }

@@ -12,3 +12,8 @@ pub returns-in-Ok-clause-fits : goal.returns-in-Ok-clause-fits
 returns-in-Ok-clause-fits c =
     let size = length-block c.args.big (map string_bytes c.args.args.now) in
     omega (arith, c.block_length-length.ensures, size)
+
+pub returns-in-Err-clause-fault : goal.returns-in-Err-clause-fault
+returns-in-Err-clause-fault c =
+    let size = length-block c.args.big (map string_bytes c.args.args.now) in
+    omega (arith, c.block_length-length.ensures, size)
