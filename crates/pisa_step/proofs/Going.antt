@@ -1,10 +1,9 @@
 -- The access of an instruction is the one of the table, and it goes on as its control says.
-use Rattle.std.proofs.Common.{◌≡◌, ◌+◌, ◌%◌, ℕ, Bool, true, false, List, [], Some, None, Result, Ok, Err, IfOk, refl, sym, subst, nat_eq, if◌then◌else◌}
+use Rattle.std.proofs.Common.{◌≡◌, ℕ, Bool, true, false, [], Ok, IfOk, refl, sym, subst, nat_eq, if◌then◌else◌}
 use Rattle.pisa_isa.specs.declared.instr.Instr.{Instr}
 use Rattle.pisa_isa.specs.declared.classes.ControlKind.TheVariants as control
-use Rattle.pisa_isa.specs.Table.{row_of}
-use Rattle.pisa_isa.specs.Classes.{access_by, access_of, control_by, control_of, operands_of}
-use Rattle.pisa_isa.specs.Targets.{branch_target, jump_target}
+use Rattle.pisa_isa.specs.Classes.{access_by, access_of, control_by, control_of}
+use Rattle.pisa_isa.specs.Targets.{branch_target}
 use Rattle.pisa_step.specs.declared.action.Action.{Action}
 use Rattle.pisa_step.specs.declared.action.Action.TheVariants as action
 use Rattle.pisa_step.specs.declared.action.Link.TheVariants as link
@@ -13,7 +12,6 @@ use Rattle.pisa_step.specs.declared.action.Address.{Address}
 use Rattle.pisa_step.specs.declared.action.Address.TheVariants as address
 use Rattle.pisa_step.specs.declared.action.Stored.{Stored}
 use Rattle.pisa_step.specs.declared.action.Stored.TheVariants as stored
-use Rattle.pisa_step.specs.declared.cause.Cause.{Cause}
 use Rattle.pisa_step.specs.declared.changes.Changes.{Changes}
 use Rattle.pisa_step.specs.declared.changes.TextRange.{TextRange}
 use Rattle.pisa_step.specs.Reader.{Reader}

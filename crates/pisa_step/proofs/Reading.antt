@@ -1,5 +1,5 @@
 -- An instruction's effect depends on what it reads alone.
-use Rattle.std.proofs.Common.{◌≡◌, ◌+◌, ◌-◌, ◌*◌, ◌/◌, ◌%◌, ◌^◌, ◌<◌, ◌≤◌, ◌&&◌, ℕ, Bool, true, false, not, List, [], ◌∷◌, ◌++◌, filter, All, Ok, Result, refl, sym, ap, subst, arith, nat_eq, ◌∙◌, if◌then◌else◌, cond}
+use Rattle.std.proofs.Common.{◌≡◌, ◌+◌, ◌-◌, ◌%◌, ◌^◌, ◌<◌, ◌≤◌, ◌&&◌, ℕ, Bool, true, false, not, List, [], ◌∷◌, ◌++◌, filter, All, Ok, refl, ap, subst, arith, nat_eq, ◌∙◌, if◌then◌else◌}
 use Rattle.std.proofs.lemmas.Bool.{eqb-true}
 use Rattle.std.proofs.lemmas.List.Elements.{All-nil, All-cons, All-head, All-tail}
 use Rattle.pisa_isa.specs.declared.instr.Instr.{Instr}
@@ -12,14 +12,13 @@ use Rattle.pisa_isa.specs.Table.{row_of}
 use Rattle.pisa_isa.specs.Fields.{fields_of, last_rt, takes_pair}
 use Rattle.pisa_isa.specs.Coding.{AtMost, IsWellFormed, field_of}
 use Rattle.pisa_isa.specs.Targets.{branch_target}
-use Rattle.pisa_isa.specs.Places.{destination, is_rd, is_register, is_rt, late_source, main_places, members, reads_main_of, registers}
+use Rattle.pisa_isa.specs.Places.{destination, is_rd, is_register, is_rt, late_source, main_places, members, registers}
 use Rattle.pisa_step.specs.declared.action.Action.{Action}
 use Rattle.pisa_step.specs.declared.action.Action.TheVariants as action
 use Rattle.pisa_step.specs.declared.action.Alu.{Alu}
 use Rattle.pisa_step.specs.declared.action.Alu.TheVariants as alu
 use Rattle.pisa_step.specs.declared.action.Form.{Form}
 use Rattle.pisa_step.specs.declared.action.Form.TheVariants as form
-use Rattle.pisa_step.specs.declared.action.Link.{Link}
 use Rattle.pisa_step.specs.declared.action.Link.TheVariants as link
 use Rattle.pisa_step.specs.declared.action.Half.TheVariants as half
 use Rattle.pisa_step.specs.declared.action.Address.{Address}
@@ -36,7 +35,7 @@ use Rattle.pisa_step.specs.Arithmetic.{alu_of, exact_of, first_of, second_of, ta
 use Rattle.pisa_step.specs.Memory.{address_of, half_at, half_bytes, half_in, loaded_of, loaded_size, part_loaded, part_start, part_stored, stored_of, stored_size, word_at, word_bytes, word_in}
 use Rattle.pisa_step.specs.Effect.{aligned, branches, divides, effect_of, exactly, jumps, linked, load_at, load_pair_at, load_part_at, loads, moves_to, multiplies, outcome_of, store_at, store_part_at, stores, writes_reg, written}
 use Rattle.pisa_step.specs.Actions.{action_of}
-use Rattle.pisa_step.specs.Dependence.{IsLoaded, ReadTheSame, effective_address_by, first_loaded, loaded_count, value_at}
+use Rattle.pisa_step.specs.Dependence.{ReadTheSame, effective_address_by, first_loaded, loaded_count, value_at}
 use Rattle.pisa_step.proofs.Columns.{form_shape, kind_for, kind_is, shape_is, shape_of}
 
 -- ---- from places to registers
@@ -158,9 +157,9 @@ rt_same : (does : Action) (o : Operands) (k : Kind) (i : Instr) (s t : Reader) �
 rt_same does o k i s t a plain unwritten early =
     used_same s t (fields_of o).rt (last_rt (takes_pair k)) i.rt a.rt a.none
     (subst (λ used. SameReg s t (field_of used i.rt))
-      (ap (λ b. (fields_of o).rt && not b && not (is_rt (late_source k))) unwritten
-      ∙ ap (λ b. (fields_of o).rt && true && not b) early
-      ∙ twice (fields_of o).rt)
+    (ap (λ b. (fields_of o).rt && not b && not (is_rt (late_source k))) unwritten
+    ∙ ap (λ b. (fields_of o).rt && true && not b) early
+    ∙ twice (fields_of o).rt)
     (All-head (SameReg s t) (rt_read o k i) (rd_read o k i ∷ []) (All-tail (SameReg s t) (rs_read o i) (rt_read o k i ∷ rd_read o k i ∷ []) (listed does o k i s t a plain))))
 
 rd_same : (does : Action) (o : Operands) (k : Kind) (i : Instr) (s t : Reader) → Alike does o k i s t → main_by o k i ≡ registers (sources_by o k i)
@@ -168,7 +167,7 @@ rd_same : (does : Action) (o : Operands) (k : Kind) (i : Instr) (s t : Reader) �
 rd_same does o k i s t a plain unwritten =
     used_same s t (fields_of o).rd 31 i.rd a.rd a.none
     (subst (λ used. SameReg s t (field_of used i.rd))
-      (ap (λ b. (fields_of o).rd && not b) unwritten ∙ once (fields_of o).rd)
+    (ap (λ b. (fields_of o).rd && not b) unwritten ∙ once (fields_of o).rd)
     (All-head (SameReg s t) (rd_read o k i) [] (All-tail (SameReg s t) (rt_read o k i) (rd_read o k i ∷ []) (All-tail (SameReg s t) (rs_read o i) (rt_read o k i ∷ rd_read o k i ∷ []) (listed does o k i s t a plain)))))
 
 -- the register that is read late

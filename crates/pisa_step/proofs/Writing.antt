@@ -1,5 +1,5 @@
 -- An instruction writes the places of the table, and all others stay.
-use Rattle.std.proofs.Common.{◌≡◌, ◌+◌, ◌%◌, ◌/◌, ◌^◌, ◌<◌, ℕ, Bool, true, false, not, List, [], ◌∷◌, ◌++◌, map, filter, Option, Some, None, Result, Ok, Err, IfOk, refl, sym, ap, subst, arith, nat_eq, unwrap_or, ◌∙◌, if◌then◌else◌}
+use Rattle.std.proofs.Common.{◌≡◌, ◌+◌, ℕ, Bool, true, false, not, List, [], ◌∷◌, ◌++◌, map, filter, Option, Some, None, Ok, IfOk, refl, sym, ap, subst, arith, nat_eq, unwrap_or, ◌∙◌, if◌then◌else◌}
 use Rattle.std.specs.List.{Contains}
 use Rattle.std.proofs.lemmas.Bool.{eqb-true}
 use Rattle.std.proofs.lemmas.List.{append-nil, append_assoc}
@@ -7,8 +7,6 @@ use Rattle.std.proofs.lemmas.List.Elements.{Contains-append_left, Contains-appen
 use Rattle.pisa_isa.specs.declared.instr.Instr.{Instr}
 use Rattle.pisa_isa.specs.declared.places.Place.{Place}
 use Rattle.pisa_isa.specs.declared.places.Place.TheVariants as place
-use Rattle.pisa_isa.specs.declared.table.Kind.{Kind}
-use Rattle.pisa_isa.specs.declared.table.Operands.{Operands}
 use Rattle.pisa_isa.specs.Table.{row_of}
 use Rattle.pisa_isa.specs.Fields.{fields_of}
 use Rattle.pisa_isa.specs.Targets.{branch_target}
@@ -25,14 +23,13 @@ use Rattle.pisa_step.specs.declared.action.Address.{Address}
 use Rattle.pisa_step.specs.declared.action.Address.TheVariants as address
 use Rattle.pisa_step.specs.declared.action.Stored.{Stored}
 use Rattle.pisa_step.specs.declared.action.Stored.TheVariants as stored
-use Rattle.pisa_step.specs.declared.cause.Cause.{Cause}
 use Rattle.pisa_step.specs.declared.changes.Changes.{Changes}
 use Rattle.pisa_step.specs.declared.changes.TextRange.{TextRange}
 use Rattle.pisa_step.specs.Reader.{Reader, regs_after, regs_with}
 use Rattle.pisa_step.specs.Words.{word_of, word_sum}
 use Rattle.pisa_step.specs.Arithmetic.{alu_of, exact_of, first_of, second_of, target_of, is_taken}
-use Rattle.pisa_step.specs.Memory.{address_of, loaded_of, loaded_size, part_loaded_at, word_at}
-use Rattle.pisa_step.specs.Effect.{changed, effect_of, moves_from, outcome_of, written}
+use Rattle.pisa_step.specs.Memory.{address_of, loaded_of, part_loaded_at, word_at}
+use Rattle.pisa_step.specs.Effect.{changed, effect_of, outcome_of, written}
 use Rattle.pisa_step.specs.Actions.{action_of}
 use Rattle.pisa_step.specs.Dependence.{value_at, where_some, written_places}
 use Rattle.pisa_step.proofs.Columns.{form_shape, kind_for, kind_is, shape_is, shape_of, unsigned_shape}
@@ -53,7 +50,7 @@ one_named r v = one_if r v (nat_eq r 0)
 pair_if : (r v w : ℕ) (zero next same : Bool) → nat_eq (r + 1) 0 ≡ next → nat_eq (r + 1) r ≡ same
     → named ((if zero then [] else (r, v) ∷ []) ++ (if next then [] else (r + 1, w) ∷ []))
     ≡ (if zero then (if next then [] else place.Reg (r + 1) ∷ [])
-       else place.Reg r ∷ filter (λ p. not (is_register r p)) (if next then [] else place.Reg (r + 1) ∷ []))
+    else place.Reg r ∷ filter (λ p. not (is_register r p)) (if next then [] else place.Reg (r + 1) ∷ []))
 pair_if r v w zero true same next-is same-is = absurd (omega (arith, eqb-true (r + 1) 0 next-is))
 pair_if r v w true false same next-is same-is = refl
 pair_if r v w false false true next-is same-is = absurd (omega (arith, eqb-true (r + 1) r same-is))
@@ -147,10 +144,10 @@ regs_stay : (regs : ℕ → ℕ) (ws : List (ℕ × ℕ)) (rest : List Place) (q
 regs_stay regs [] rest q absent = refl
 regs_stay regs (w ∷ ws) rest q absent =
     regs_stay (regs_with regs w.0 w.1) ws rest q
-      (λ there. absent (Contains-append_right (place.Reg w.0 ∷ []) (map (λ x. place.Reg x.0) ws ++ rest) (place.Reg q) there))
+    (λ there. absent (Contains-append_right (place.Reg w.0 ∷ []) (map (λ x. place.Reg x.0) ws ++ rest) (place.Reg q) there))
     ∙ regs_with_stays regs w.0 w.1 q (nat_eq w.0 0) (nat_eq q w.0) refl
-      (λ same. absent (subst (λ r. Contains (place.Reg r ∷ map (λ x. place.Reg x.0) ws ++ rest) (place.Reg q)) same
-        (first_is_there (place.Reg q) (map (λ x. place.Reg x.0) ws ++ rest))))
+    (λ same. absent (subst (λ r. Contains (place.Reg r ∷ map (λ x. place.Reg x.0) ws ++ rest) (place.Reg q)) same
+    (first_is_there (place.Reg q) (map (λ x. place.Reg x.0) ws ++ rest))))
 
 lo_last : (a b c : List Place) → (a ++ b) ++ (c ++ []) ≡ a ++ (b ++ c)
 lo_last a b c = ap (λ d. (a ++ b) ++ d) (append-nil c) ∙ append_assoc a b c
@@ -161,7 +158,7 @@ stays s e place.Hi absent =
     some_stays e.hi s.hi place.Hi (map (λ w. place.Reg w.0) e.regs.items) (where_some e.lo place.Lo) absent
 stays s e place.Lo absent =
     some_stays e.lo s.lo place.Lo (map (λ w. place.Reg w.0) e.regs.items ++ where_some e.hi place.Hi) []
-      (λ there. absent (subst (λ ps. Contains ps place.Lo) (lo_last (map (λ w. place.Reg w.0) e.regs.items) (where_some e.hi place.Hi) (where_some e.lo place.Lo)) there))
+    (λ there. absent (subst (λ ps. Contains ps place.Lo) (lo_last (map (λ w. place.Reg w.0) e.regs.items) (where_some e.hi place.Hi) (where_some e.lo place.Lo)) there))
 
 pub others_stay : (s : Reader) (i : Instr) (pc : ℕ) (text : TextRange) (e : Changes) (p : Place) → effect_of s i pc text ≡ Ok e
     → (Contains (writes_of i) p → ⊥) → value_at (changed s e) p ≡ value_at s p

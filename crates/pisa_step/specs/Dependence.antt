@@ -1,6 +1,6 @@
 -- What an instruction's effect depends on and what it changes, in terms of the table of instructions alone:
 -- its places, its access and its control.
-use Rattle.std.specs.Prelude.{◌≡◌, ℕ, ◌+◌, ◌-◌, ◌%◌, ◌<◌, ◌≤◌, Bool, true, false, List, [], ◌∷◌, ◌++◌, All, Option, Some, None, IsSome, map, if◌then◌else◌}
+use Rattle.std.specs.Prelude.{◌≡◌, ℕ, ◌+◌, ◌-◌, ◌%◌, ◌<◌, ◌≤◌, true, false, List, [], ◌∷◌, ◌++◌, All, Option, Some, None, IsSome, map, if◌then◌else◌}
 use Rattle.pisa_isa.specs.declared.instr.Instr.{Instr}
 use Rattle.pisa_isa.specs.declared.table.Operands.{Operands}
 use Rattle.pisa_isa.specs.declared.table.Operands.TheVariants as form
