@@ -5,3 +5,4 @@ pub mod Arithmetic
 pub mod Memory
 pub mod Effect
 pub mod Proper
+pub mod Dependence

@@ -6,7 +6,6 @@ mod flat;
 use crate::{Cause, Changes, Machine, TextRange, apply, effect};
 use flat::{BASE, Flat, has_room};
 use pisa_isa::{Instr, Op};
-use std::process::Abort;
 
 /// Where the instructions stand.
 const PC: u32 = 0x0040_0000;
@@ -31,49 +30,52 @@ fn instr(op: Op, rs: u8, rt: u8, rd: u8) -> Instr {
     }
 }
 
-/// The effect of an instruction at `PC`, with text of four instructions.
-fn run(rt: &impl Abort, m: &Flat, i: &Instr) -> Result<Changes, Cause> {
-    run_with(
-        rt,
-        m,
-        i,
-        TextRange {
-            start: PC,
-            end: PC + 32,
-        },
-    )
+/// An instruction on register 4 with an immediate value and a target register.
+fn with_imm(op: Op, imm: u16, rt: u8) -> Instr {
+    Instr {
+        imm,
+        ..instr(op, 4, rt, 0)
+    }
 }
 
-/// The effect of an instruction at `PC`.
-fn run_with(rt: &impl Abort, m: &Flat, i: &Instr, text: TextRange) -> Result<Changes, Cause> {
-    assert!(rt; i.well_formed());
-    assert!(rt; !is_call(i.op));
-    effect(m, i, PC, text)
+/// Text of four instructions.
+const TEXT: TextRange = TextRange {
+    start: PC,
+    end: PC + 32,
+};
+
+/// The effect of an instruction at `PC`, or None where it has none to ask for.
+fn answer(m: &Flat, i: &Instr, text: TextRange) -> Option<Result<Changes, Cause>> {
+    if is_call(i.op) || !i.well_formed() {
+        return None;
+    }
+    Some(effect(m, i, PC, text))
 }
 
-/// The register that an instruction writes, with its value.
-fn written(rt: &impl Abort, m: &Flat, i: &Instr) -> (u8, u32) {
-    let changes = run(rt, m, i).expect(rt, "it goes on");
-    assert_eq!(rt; changes.next, PC + 8);
-    assert!(rt; changes.mem.is_none());
-    assert_eq!(rt; changes.regs.len(), 1);
-    changes.regs.as_slice()[0]
-}
-
-/// The machine after an instruction.
-fn step(rt: &impl Abort, m: &mut Flat, i: &Instr) {
-    assert!(rt; i.well_formed());
-    assert!(rt; !is_call(i.op));
-    let text = TextRange {
-        start: PC,
-        end: PC + 32,
+/// Whether an instruction goes on and writes this register alone with this value.
+fn writes(m: &Flat, i: &Instr, register: u8, value: u32) -> bool {
+    let Some(Ok(changes)) = answer(m, i, TEXT) else {
+        return false;
     };
-    match effect(m, i, PC, text) {
+    changes.next == PC + 8
+        && changes.mem.is_none()
+        && changes.regs.as_slice() == [(register, value)].as_slice()
+}
+
+/// Makes the changes of an instruction, and answers whether there were any to make.
+fn step(m: &mut Flat, i: &Instr) -> bool {
+    if is_call(i.op) || !i.well_formed() {
+        return false;
+    }
+    match effect(m, i, PC, TEXT) {
         Ok(changes) => {
-            assert!(rt; has_room(m, &changes));
-            apply(m, &changes);
+            let fits = has_room(m, &changes);
+            if fits {
+                apply(m, &changes);
+            }
+            fits
         }
-        Err(cause) => panic!(rt; "{cause}"),
+        Err(_) => false,
     }
 }
 
@@ -99,39 +101,30 @@ fn part_loads_join(rt: HostRuntime) {
         (Op::Lwr, 2, 0xaabb_4433, 0xaa11_2233),
         (Op::Lwr, 3, 0xaabb_cc44, 0x1122_3344),
     ];
-    let (little, big) = (with_word(false), with_word(true));
+    let mut wrong = None;
     for (op, imm, in_little, in_big) in rows {
-        let i = Instr {
-            imm,
-            ..instr(op, 4, 8, 0)
-        };
-        assert_eq!(rt;
-            written(&rt, &little, &i),
-            (8, in_little),
-            "little at {imm}"
-        );
-        assert_eq!(rt; written(&rt, &big, &i), (8, in_big), "big at {imm}");
+        let i = with_imm(op, imm, 8);
+        if !writes(&with_word(false), &i, 8, in_little)
+            || !writes(&with_word(true), &i, 8, in_big)
+        {
+            wrong = Some((op, imm));
+        }
     }
+    assert_eq!(rt; wrong, None);
 }
 
-/// Memory of four bytes from `BASE` on, after an instruction.
-fn after(rt: &impl Abort, big: bool, op: Op, imm: u16) -> u32 {
+/// Memory of four bytes from `BASE` on after an instruction, or None where it stops or changes more.
+fn after(big: bool, op: Op, imm: u16) -> Option<u32> {
     let mut m = with_word(big);
-    step(
-        rt,
-        &mut m,
-        &Instr {
-            imm,
-            ..instr(op, 4, 8, 0)
-        },
-    );
-    assert_eq!(rt; m.tag, 77);
-    u32::from_be_bytes([
+    if !step(&mut m, &with_imm(op, imm, 8)) || m.tag != 77 {
+        return None;
+    }
+    Some(u32::from_be_bytes([
         m.byte(BASE),
         m.byte(BASE + 1),
         m.byte(BASE + 2),
         m.byte(BASE + 3),
-    ])
+    ]))
 }
 
 /// Each store writes its bytes and no others, at each place in both byte orders.
@@ -151,10 +144,13 @@ fn stores_write_their_bytes(rt: HostRuntime) {
         (Op::Sw, 0, 0xddcc_bbaa, 0xaabb_ccdd),
         (Op::Dsw, 0, 0xddcc_bbaa, 0xaabb_ccdd),
     ];
+    let mut wrong = None;
     for (op, imm, in_little, in_big) in rows {
-        assert_eq!(rt; after(&rt, false, op, imm), in_little, "little at {imm}");
-        assert_eq!(rt; after(&rt, true, op, imm), in_big, "big at {imm}");
+        if after(false, op, imm) != Some(in_little) || after(true, op, imm) != Some(in_big) {
+            wrong = Some((op, imm));
+        }
     }
+    assert_eq!(rt; wrong, None);
 }
 
 /// A machine with two values, in registers 4 and 5.
@@ -165,7 +161,7 @@ fn with_values(a: u32, b: u32) -> Flat {
     m
 }
 
-/// Values of two registers, of a register and an immediate, and of a shift amount.
+/// Values of two registers.
 #[test]
 fn values_are_computed(rt: HostRuntime) {
     let of_registers = [
@@ -188,14 +184,18 @@ fn values_are_computed(rt: HostRuntime) {
         (Op::Sltu, 0x8000_0000, 0x7fff_ffff, 0),
         (Op::Sltu, 0, 0x8000_0000, 1),
     ];
+    let mut wrong = None;
     for (op, a, b, want) in of_registers {
-        let m = with_values(a, b);
-        assert_eq!(rt;
-            written(&rt, &m, &instr(op, 4, 5, 6)),
-            (6, want),
-            "{a:x} {b:x}"
-        );
+        if !writes(&with_values(a, b), &instr(op, 4, 5, 6), 6, want) {
+            wrong = Some((op, a, b));
+        }
     }
+    assert_eq!(rt; wrong, None);
+}
+
+/// Values of a register and an immediate.
+#[test]
+fn immediate_values_are_computed(rt: HostRuntime) {
     let of_immediates = [
         (Op::Addi, 0x8000_0001, 0xffff, 0x8000_0000),
         (Op::Addiu, 0x7fff_ffff, 1, 0x8000_0000),
@@ -208,33 +208,49 @@ fn values_are_computed(rt: HostRuntime) {
         (Op::Sltiu, 1, 0x8000, 1),
         (Op::Sltiu, 0xffff_ffff, 0xffff, 0),
     ];
+    let mut wrong = None;
     for (op, a, imm, want) in of_immediates {
-        let m = with_values(a, 0);
-        let i = Instr {
-            imm,
-            ..instr(op, 4, 7, 0)
-        };
-        assert_eq!(rt; written(&rt, &m, &i), (7, want), "{a:x} {imm:x}");
+        if !writes(&with_values(a, 0), &with_imm(op, imm, 7), 7, want) {
+            wrong = Some((op, a, imm));
+        }
     }
+    assert_eq!(rt; wrong, None);
+}
+
+/// Values of a register and a shift amount, and of LUI.
+#[test]
+fn shifted_values_are_computed(rt: HostRuntime) {
     let of_shifts = [
         (Op::Sll, 0x8000_0001, 31, 0x8000_0000),
         (Op::Srl, 0x8000_0001, 31, 1),
         (Op::Sra, 0x8000_0001, 31, 0xffff_ffff),
         (Op::Sra, 0x7fff_ffff, 30, 1),
     ];
-    for (op, b, shamt, want) in of_shifts {
-        let m = with_values(0, b);
-        let i = Instr {
-            shamt,
-            ..instr(op, 0, 5, 6)
-        };
-        assert_eq!(rt; written(&rt, &m, &i), (6, want), "{b:x} by {shamt}");
-    }
     let upper = Instr {
         imm: 0x8001,
         ..instr(Op::Lui, 0, 9, 0)
     };
-    assert_eq!(rt; written(&rt, &with_values(1, 2), &upper), (9, 0x8001_0000));
+    let mut right = writes(&with_values(1, 2), &upper, 9, 0x8001_0000);
+    for (op, b, shamt, want) in of_shifts {
+        let i = Instr {
+            shamt,
+            ..instr(op, 0, 5, 6)
+        };
+        right = right && writes(&with_values(0, b), &i, 6, want);
+    }
+    assert!(rt; right);
+}
+
+/// Whether an operation puts these values into HI and LO, and the moves take them out and put others in.
+fn makes(op: Op, a: u32, b: u32, hi: u32, lo: u32) -> bool {
+    let mut m = with_values(a, b);
+    let made = step(&mut m, &instr(op, 4, 5, 0))
+        && step(&mut m, &instr(Op::Mfhi, 0, 0, 6))
+        && step(&mut m, &instr(Op::Mflo, 0, 0, 7))
+        && (m.reg(6), m.reg(7)) == (hi, lo);
+    made && step(&mut m, &instr(Op::Mthi, 4, 0, 0))
+        && step(&mut m, &instr(Op::Mtlo, 5, 0, 0))
+        && (m.hi(), m.lo()) == (a, b)
 }
 
 /// Products and quotients with their signs, and the moves of HI and LO.
@@ -258,16 +274,18 @@ fn products_and_quotients(rt: HostRuntime) {
         (Op::Divu, 0xffff_fff9, 2, 1, 0x7fff_fffc),
         (Op::Divu, 0x8000_0000, 0xffff_ffff, 0x8000_0000, 0),
     ];
+    let mut wrong = None;
     for (op, a, b, hi, lo) in rows {
-        let mut m = with_values(a, b);
-        step(&rt, &mut m, &instr(op, 4, 5, 0));
-        step(&rt, &mut m, &instr(Op::Mfhi, 0, 0, 6));
-        step(&rt, &mut m, &instr(Op::Mflo, 0, 0, 7));
-        assert_eq!(rt; (m.reg(6), m.reg(7)), (hi, lo), "{a:x} {b:x}");
-        step(&rt, &mut m, &instr(Op::Mthi, 4, 0, 0));
-        step(&rt, &mut m, &instr(Op::Mtlo, 5, 0, 0));
-        assert_eq!(rt; (m.hi(), m.lo()), (a, b));
+        if !makes(op, a, b, hi, lo) {
+            wrong = Some((op, a, b));
+        }
     }
+    assert_eq!(rt; wrong, None);
+}
+
+/// Whether an instruction stops for this cause.
+fn stops(m: &Flat, i: &Instr, text: TextRange, cause: Cause) -> bool {
+    answer(m, i, text) == Some(Err(cause))
 }
 
 /// Each cause, and a misaligned store into text, whose address is told first.
@@ -362,9 +380,16 @@ fn causes_stop(rt: HostRuntime) {
             Cause::Misaligned { addr: PC + 4 },
         ),
     ];
+    let mut right = true;
     for (a, b, i, cause) in rows {
-        assert!(rt; run(&rt, &with_values(a, b), &i) == Err(cause), "{cause}");
+        right = right && stops(&with_values(a, b), &i, TEXT, cause);
     }
+    assert!(rt; right);
+}
+
+/// Whether an instruction goes on.
+fn goes_on(m: &Flat, i: &Instr, text: TextRange) -> bool {
+    matches!(answer(m, i, text), Some(Ok(_)))
 }
 
 /// Writes next to text go on, one that ends in it stops with its first byte, and so does none where
@@ -381,15 +406,26 @@ fn text_is_kept(rt: HostRuntime) {
         (0xffff_fff0, 0xffff_ffff, 0xffff_fff8, true),
         (0x2008, 0x2010, 0xffff_fff8, false),
     ];
-    for (start, end, a, stops) in rows {
+    let mut wrong = None;
+    for (start, end, a, is_refused) in rows {
         let m = with_values(a, 0);
-        let answer = run_with(&rt, &m, &pair, TextRange { start, end });
-        if stops {
-            assert!(rt; answer == Err(Cause::TextWrite { addr: a }), "{a:x}");
-        } else {
-            assert!(rt; answer.is_ok(), "{a:x}");
+        let text = TextRange { start, end };
+        let refused = stops(&m, &pair, text, Cause::TextWrite { addr: a });
+        if refused != is_refused || refused == goes_on(&m, &pair, text) {
+            wrong = Some((start, end, a));
         }
     }
+    assert_eq!(rt; wrong, None);
+}
+
+/// Whether an instruction goes on to this address, is taken or not, and keeps this return address.
+fn goes_to(m: &Flat, i: &Instr, next: u32, taken: bool, link: Option<(u8, u32)>) -> bool {
+    let Some(Ok(changes)) = answer(m, i, TEXT) else {
+        return false;
+    };
+    (changes.next, changes.taken) == (next, taken)
+        && changes.access.is_none()
+        && changes.regs.as_slice().first().copied() == link
 }
 
 /// Branches and jumps: where they go, whether they are taken, and what they keep.
@@ -475,12 +511,31 @@ fn control_goes_on(rt: HostRuntime) {
         (0, branch(Op::Bgez, 2), PC + 16, true, None),
         (0xffff_ffff, branch(Op::Bgez, 2), PC + 8, false, None),
     ];
+    let mut wrong = None;
     for (a, i, next, taken, link) in rows {
-        let changes = run(&rt, &with_values(a, 0), &i).expect(&rt, "it goes on");
-        assert_eq!(rt; (changes.next, changes.taken), (next, taken), "{next:x}");
-        assert!(rt; changes.access.is_none());
-        assert_eq!(rt; changes.regs.as_slice().first().copied(), link);
+        if !goes_to(&with_values(a, 0), &i, next, taken, link) {
+            wrong = Some((i.op, a));
+        }
     }
+    assert_eq!(rt; wrong, None);
+}
+
+/// Whether a load of a value that a pair was stored with gives another, the pair comes back, and
+/// zeros take its place.
+fn loads(big: bool, op: Op, value: u32, want: u32) -> bool {
+    let mut m = with_word(big);
+    m.set_reg(8, value);
+    m.set_reg(9, 0x0102_0304);
+    m.set_bytes(BASE + 8, &[0x55]);
+    let loaded = step(&mut m, &instr(Op::Dsw, 4, 8, 0))
+        && step(&mut m, &instr(op, 4, 10, 0))
+        && step(&mut m, &instr(Op::Dlw, 4, 0, 0))
+        && step(&mut m, &instr(Op::DlwRr, 4, 11, 0));
+    loaded
+        && (m.reg(0), m.reg(1), m.reg(10)) == (0, 0x0102_0304, want)
+        && (m.reg(11), m.reg(12)) == (value, 0x0102_0304)
+        && step(&mut m, &instr(Op::Dsz, 4, 0, 0))
+        && (m.byte(BASE), m.byte(BASE + 7), m.byte(BASE + 8)) == (0, 0, 0x55)
 }
 
 /// Loads extend, pairs go by the register and not by the byte order, and register 0 stays 0.
@@ -493,24 +548,11 @@ fn loads_and_pairs(rt: HostRuntime) {
         (Op::Lhu, 0x8091_a2b3, 0xa2b3, 0x8091),
         (Op::Lw, 0x8091_a2b3, 0x8091_a2b3, 0x8091_a2b3),
     ];
+    let mut wrong = None;
     for (op, value, in_little, in_big) in rows {
-        for (big, want) in [(false, in_little), (true, in_big)] {
-            let mut m = with_word(big);
-            m.set_reg(8, value);
-            m.set_reg(9, 0x0102_0304);
-            m.set_bytes(BASE + 8, &[0x55]);
-            step(&rt, &mut m, &instr(Op::Dsw, 4, 8, 0));
-            step(&rt, &mut m, &instr(op, 4, 10, 0));
-            step(&rt, &mut m, &instr(Op::Dlw, 4, 0, 0));
-            step(&rt, &mut m, &instr(Op::DlwRr, 4, 11, 0));
-            assert_eq!(rt; m.reg(10), want, "{want:x}");
-            assert_eq!(rt; (m.reg(0), m.reg(1)), (0, 0x0102_0304));
-            assert_eq!(rt; (m.reg(11), m.reg(12)), (value, 0x0102_0304));
-            step(&rt, &mut m, &instr(Op::Dsz, 4, 0, 0));
-            assert_eq!(rt;
-                (m.byte(BASE), m.byte(BASE + 7), m.byte(BASE + 8)),
-                (0, 0, 0x55)
-            );
+        if !loads(false, op, value, in_little) || !loads(true, op, value, in_big) {
+            wrong = Some(op);
         }
     }
+    assert_eq!(rt; wrong, None);
 }
