@@ -11,7 +11,7 @@ use Rattle.event_trace.specs.Grammar.{InTurn, IsBlock, IsRecord, next_block, nex
 use Rattle.sim_safe.specs.declared.record.CallNote.{CallNote}
 use Rattle.sim_safe.specs.declared.record.CommitRecord.{CommitRecord}
 use Rattle.sim_safe.specs.Record.{IsRunTrace, call_by, item_of}
-use Rattle.sim_safe.specs.Commit.{block_bytes, emitted_by, emitted_from, output_of}
+use Rattle.sim_safe.specs.Commit.{block_bytes, blocks_by, blocks_from, output_of}
 
 -- blocks that fit have at most 65,536 bytes each
 blocks_length : (least : ℕ) (blocks : List Block) → InTurn IsBlock next_block least blocks → length (flat_map block_bytes blocks) ≤ 65536 * length blocks
@@ -32,23 +32,23 @@ records_length least [] k r h e = absurd (none_is r e)
 records_length least (x ∷ xs) zero r h e = record_length least r (subst (λ y. IsRecord least y) (some_is x r e) h.0)
 records_length least (x ∷ xs) (suc k) r h e = records_length (next_record x) xs k r h.1 e
 
-emitted_by_length : (k : CallKind) (by : Option Record) → ((r : Record) → by ≡ Some r → length (flat_map block_bytes r.in_blocks) ≤ 1048576) → length (emitted_by k by) ≤ 1048576
-emitted_by_length kind.Plain by f = omega arith
-emitted_by_length kind.Exit by f = omega arith
-emitted_by_length kind.Emit None f = omega arith
-emitted_by_length kind.Emit (Some r) f = f r refl
+blocks_by_length : (k : CallKind) (by : Option Record) → ((r : Record) → by ≡ Some r → length (flat_map block_bytes r.in_blocks) ≤ 1048576) → length (flat_map block_bytes (blocks_by k by)) ≤ 1048576
+blocks_by_length kind.Plain by f = omega arith
+blocks_by_length kind.Exit by f = omega arith
+blocks_by_length kind.Emit None f = omega arith
+blocks_by_length kind.Emit (Some r) f = f r refl
 
 called_length : (trace : Trace) (note : CallNote) (r : Record) → IsRunTrace trace → call_by trace (Some note) ≡ Some r → length (flat_map block_bytes r.in_blocks) ≤ 1048576
 called_length trace note r (inl e) g = absurd (none_is r (subst (λ t. call_by t (Some note) ≡ Some r) e g))
 called_length trace note r (inr t) g = records_length 0 trace.records note.used r t.records (rw t.file at g)
 
-emitted_from_length : (trace : Trace) (call : Option CallNote) → IsRunTrace trace → length (emitted_from call (call_by trace call)) ≤ 1048576
-emitted_from_length trace None h = omega arith
-emitted_from_length trace (Some note) h = emitted_by_length note.kind (call_by trace (Some note)) (λ r g. called_length trace note r h g)
+blocks_from_length : (trace : Trace) (call : Option CallNote) → IsRunTrace trace → length (flat_map block_bytes (blocks_from call (call_by trace call))) ≤ 1048576
+blocks_from_length trace None h = omega arith
+blocks_from_length trace (Some note) h = blocks_by_length note.kind (call_by trace (Some note)) (λ r g. called_length trace note r h g)
 
 -- what an instruction emits has fewer bytes than a count can say
 pub emitted_fits : (trace : Trace) (r : CommitRecord) → IsRunTrace trace → length (output_of (item_of trace r)) < 2 ^ 64
-emitted_fits trace r h = omega (arith, emitted_from_length trace r.call h)
+emitted_fits trace r h = omega (arith, blocks_from_length trace r.call h)
 
 -- so have the bytes of the first blocks, with those of the next one
 pub count_fits : (blocks : List Block) (k count : ℕ) (block : Block) (bytes : List ℕ)

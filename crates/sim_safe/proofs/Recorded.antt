@@ -19,7 +19,8 @@ use Rattle.sim_safe.specs.Advance.{AdvanceState}
 use Rattle.sim_safe.specs.declared.observer.Advance.TheVariants as advance
 use Rattle.sim_safe.specs.declared.observer.RunFault.{RunFault}
 use Rattle.sim_safe.specs.declared.observer.RunFault.TheVariants as faults
-use Rattle.sim_safe.specs.Recording.{wants_record, taken, ready_if, ready, recording_after, recording_at, recording, serve, is_end_of_trace, Prepares, RecordsFront, RecordState}
+use Rattle.paged_mem.specs.Memory.{Pages, IsReserved}
+use Rattle.sim_safe.specs.Recording.{AreRecorded, wants_record, taken, ready_if, ready, recording_after, recording_at, recording, serve, is_end_of_trace, Prepares, RecordsFront, RecordState}
 use Rattle.sim_safe.proofs.Steps.{Reaches, reaches_on, end_stop, after_stop, after_all}
 use Rattle.sim_safe.proofs.Runs.{failed_state}
 use Rattle.sim_safe.proofs.Growing.{reaches_grown, items_grown}
@@ -66,7 +67,7 @@ ready_with p old new s (Ok true) e f t =
 ready_with p old new s (Ok false) e f t =
     let b : wants_record (step_of old.trace s) ≡ true = sym (peek_wants (step_of old.trace s)) ∙ ap is_end_of_trace (sym e) ∙ f in
     (ready_is old.world old.trace s true b ∙ taken_if false old.trace (serve old.world s) t.1, ap (λ x. x.trace) t.0)
-ready_with p old new s (Err x) e f t = ap (λ x. x.trace) t
+ready_with p old new s (Err x) e f t = (ap (λ x. x.trace) t, sym (peek_wants (step_of old.trace s)) ∙ ap is_end_of_trace (sym e) ∙ f)
 
 -- a trace that takes a record stays one with a file
 pub takes_file : (answer : Record × WorldState) (old new : RecorderState) (result : Result Bool OutOfMemory) → old.trace.file ≡ true → Takes answer old new result → new.trace.file ≡ true
@@ -202,3 +203,11 @@ front_unready k whole w t u n done s x calls e file d l i =
     let g = recording_more serve k w t x in
     let grown : whole.0 ≡ with_more u g.0 = sym (ap (λ p. p.0) calls) ∙ g.1 ∙ ap (λ y. with_more y g.0) (sym e) in
     subst P (sym z) (front_grown whole.0 u n done s x (g.0, grown) file (omega arith) (subst R (sym e) l))
+
+-- where each call of the run has its record, none wants one at a step on the way
+pub unready_memory : (t u : Trace) (pages : Pages) (n done : ℕ) (s x : State) → u ≡ t → wants_record (step_of t x) ≡ true → done < n → Reaches t done s x → AreRecorded u pages n s → ⊥
+unready_memory t u pages n done s x e wants d l recorded =
+    let R : Trace → Type 0 = λ y. AreRecorded y pages n s in
+    let here : wants_record (step_of t (after t done s)) ≡ false = (subst R e recorded done d).1 in
+    let b : wants_record (step_of t x) ≡ false = ap (λ y. wants_record (step_of t y)) (after_all t done s x l) ∙ here in
+    cc

@@ -7,14 +7,17 @@ use Rattle.sim_safe.specs.declared.observer.RunEnd.TheVariants as ends
 use Rattle.sim_safe.specs.declared.observer.RunFault.{RunFault}
 use Rattle.sim_safe.specs.declared.observer.RunFault.TheVariants as faults
 use Rattle.sim_safe.specs.declared.observer.Advance.TheVariants as advance
-use Rattle.sim_safe.specs.Step.{Halt, step_of}
+use Rattle.sim_safe.specs.declared.observer.Meaning.{Meaning}
+use Rattle.paged_mem.specs.Memory.{Pages, IsReserved}
+use Rattle.sim_safe.specs.Step.{Halt, step_of, TakesNoMemory}
 use Rattle.sim_safe.specs.State.{State}
 use Rattle.sim_safe.specs.Record.{Item}
 use Rattle.sim_safe.specs.Commit.{onto}
-use Rattle.sim_safe.specs.Run.{items_of, after, end_of}
+use Rattle.sim_safe.specs.Run.{items_of, after, end_of, WriteReserved}
+use Rattle.sim_safe.proofs.NoMemory.{takes_kept}
 use Rattle.sim_safe.proofs.Steps.{Reaches, reaches_none, reaches_on, onto_on, items_stop, after_stop, end_stop, after_all}
-use Rattle.sim_safe.specs.Observed.{RunTook, RunState}
-use Rattle.sim_safe.specs.Advance.{AdvanceState, AdvanceTook}
+use Rattle.sim_safe.specs.Observed.{RunMemory, RunTook, RunState}
+use Rattle.sim_safe.specs.Advance.{AdvanceMemory, AdvanceState, AdvanceTook}
 
 -- a run that is given up at a step
 pub failed_took : {S F : Type 0} (T : Type 0) (took cut : S → List Item → S → Type 0) (trace : Trace) (n done : ℕ) (s t u : State) (start : S) (h : List Item) (now : S) (f : RunFault F)
@@ -61,3 +64,17 @@ stopped_state trace n done s t u why l d e = (e.1 ∙ after_stop trace done n s 
 pub none_state : (trace : Trace) (n : ℕ) (s : State) → n ≡ 0 → (s ≡ after trace n s) × (ends.Limit ≡ end_of trace n s)
 none_state trace zero s e = (after_all trace 0 s s (reaches_none trace s), refl)
 none_state trace (suc n) s e = absurd (omega arith)
+
+-- the step at which a run is given up takes no memory where all steps of the run take none
+pub step_takes : (trace : Trace) (n done : ℕ) (s t : State) (was now : Pages) → Reaches trace done s t → done < n → ((k : ℕ) → IsReserved was k → IsReserved now k)
+    → WriteReserved trace was n s → TakesNoMemory trace now (step_of trace t)
+step_takes trace n done s t was now l d kept held =
+    let P : State → Type 0 = λ x. TakesNoMemory trace was (step_of trace x) in
+    takes_kept trace was now (step_of trace t) kept (subst P (sym (after_all trace done s t l)) (held done d))
+
+-- what memory a run wanted that is given up at a step
+pub failed_memory : {S F : Type 0} (T held : Type 0) (takes_none : S → Type 0) (means : F → Meaning) (trace : Trace) (t : State) (now : Pages) (start before after_it : S) (f : RunFault F)
+    → (held → TakesNoMemory trace now (step_of trace t)) → (takes_none start → takes_none before) → AdvanceMemory takes_none means (TakesNoMemory trace now (step_of trace t)) before after_it (advance.Failed f)
+    → RunMemory {T = T} takes_none means held start after_it (Err f)
+failed_memory T held takes_none means trace t now start before after_it (faults.Watch f) takes none m = λ k. m (none k)
+failed_memory T held takes_none means trace t now start before after_it faults.OutOfMemory takes none m = ((λ k. m.0 (none k)), (λ k. m.1 (takes k)))

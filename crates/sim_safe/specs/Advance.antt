@@ -1,7 +1,8 @@
 -- One step of an observed run: what the parts of `run` say of each other.
-use Rattle.std.specs.Prelude.{◌≡◌, ◌+◌, ℕ, List, ◌∷◌}
+use Rattle.std.specs.Prelude.{◌≡◌, ◌≢◌, ◌+◌, ℕ, List, ◌∷◌}
 use Rattle.event_trace.specs.declared.trace.Trace.{Trace}
 use Rattle.sim_safe.specs.declared.observer.Meaning.{Meaning}
+use Rattle.sim_safe.specs.declared.observer.Meaning.TheVariants as meaning
 use Rattle.sim_safe.specs.declared.observer.RunFault.TheVariants as faults
 use Rattle.sim_safe.specs.declared.observer.Advance.{Advance}
 use Rattle.sim_safe.specs.declared.observer.Advance.TheVariants as advance
@@ -31,3 +32,10 @@ AdvanceCounts means before now advance.Going = now ≡ before
 AdvanceCounts means before now (advance.Ended why) = now ≡ before
 AdvanceCounts means before now (advance.Failed (faults.Watch f)) = Faulted (means f) before now
 AdvanceCounts means before now (advance.Failed faults.OutOfMemory) = now ≡ before
+
+-- what memory it wants
+abbrev pub AdvanceMemory : {S F : Type 0} → (S → Type 0) → (F → Meaning) → Type 0 → S → S → Advance F → Type 0
+AdvanceMemory takes_none means held before now advance.Going = takes_none before → takes_none now
+AdvanceMemory takes_none means held before now (advance.Ended why) = takes_none before → takes_none now
+AdvanceMemory takes_none means held before now (advance.Failed (faults.Watch f)) = takes_none before → takes_none now × (means f ≢ meaning.Memory)
+AdvanceMemory takes_none means held before now (advance.Failed faults.OutOfMemory) = (takes_none before → takes_none now) × (held → ⊥)

@@ -15,22 +15,27 @@ use Rattle.sim_safe.specs.Record.{Item}
 
 -- ---- output
 
+-- the blocks that a call of a kind emits: its input blocks
+abbrev pub blocks_by : CallKind → Option Record → List Block
+blocks_by kind.Plain by = []
+blocks_by kind.Exit by = []
+blocks_by kind.Emit None = []
+blocks_by kind.Emit (Some r) = r.in_blocks
+
+abbrev pub blocks_from : Option CallNote → Option Record → List Block
+blocks_from None by = []
+blocks_from (Some note) by = blocks_by note.kind by
+
+-- the blocks that an instruction emits
+abbrev pub emitted_of : Item → List Block
+emitted_of i = blocks_from i.did.call i.by
+
 abbrev pub block_bytes : Block → List ℕ
 block_bytes block = block.bytes
 
--- the bytes that a call of a kind emits: those of its input blocks
-abbrev pub emitted_by : CallKind → Option Record → List ℕ
-emitted_by kind.Plain by = []
-emitted_by kind.Exit by = []
-emitted_by kind.Emit None = []
-emitted_by kind.Emit (Some r) = flat_map block_bytes r.in_blocks
-
-abbrev pub emitted_from : Option CallNote → Option Record → List ℕ
-emitted_from None by = []
-emitted_from (Some note) by = emitted_by note.kind by
-
+-- the bytes of them
 abbrev pub output_of : Item → List ℕ
-output_of i = emitted_from i.did.call i.by
+output_of i = flat_map block_bytes (emitted_of i)
 
 -- ---- lines
 

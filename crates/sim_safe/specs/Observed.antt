@@ -1,5 +1,5 @@
 -- What an observer promises, and what a run that is observed does.
-use Rattle.std.specs.Prelude.{◌≡◌, ◌-◌, ◌<◌, ◌≤◌, ℕ, List, Result, Ok, Err}
+use Rattle.std.specs.Prelude.{◌≡◌, ◌≢◌, ◌-◌, ◌<◌, ◌≤◌, ℕ, List, Result, Ok, Err}
 use Rattle.ss_base.specs.Outside.{Rose}
 use Rattle.event_trace.specs.declared.trace.Trace.{Trace}
 use Rattle.sim_safe.specs.declared.observer.Meaning.{Meaning}
@@ -28,11 +28,24 @@ abbrev pub Saw : {S T F : Type 0} → (S → List Item → S → Type 0) → (S 
 Saw took cut start h now (Ok _) = took start h now
 Saw took cut start h now (Err f) = cut start h now
 
+-- after a call of an observer that takes no memory: it takes none from now on, and a fault doesn't mean
+-- memory
+abbrev pub SawWithoutMemory : {S T F : Type 0} → (S → Type 0) → (F → Meaning) → S → Result T F → Type 0
+SawWithoutMemory takes_none means now (Ok _) = takes_none now
+SawWithoutMemory takes_none means now (Err f) = takes_none now × (means f ≢ meaning.Memory)
+
 -- the counts after a run
 abbrev pub RunCounts : {T F : Type 0} → (F → Meaning) → ℕ × ℕ → ℕ × ℕ → Result T (RunFault F) → Type 0
 RunCounts means before now (Ok _) = now ≡ before
 RunCounts means before now (Err (faults.Watch f)) = Faulted (means f) before now
 RunCounts means before now (Err faults.OutOfMemory) = now ≡ before
+
+-- what memory a run wants: over an observer that takes none, that takes none from then on, and a fault of
+-- it doesn't mean memory; the run itself finds none only where its steps aren't held by what there is
+abbrev pub RunMemory : {S T F : Type 0} → (S → Type 0) → (F → Meaning) → Type 0 → S → S → Result T (RunFault F) → Type 0
+RunMemory takes_none means held before now (Ok e) = takes_none before → takes_none now
+RunMemory takes_none means held before now (Err (faults.Watch f)) = takes_none before → takes_none now × (means f ≢ meaning.Memory)
+RunMemory takes_none means held before now (Err faults.OutOfMemory) = (takes_none before → takes_none now) × (held → ⊥)
 
 -- what an observer has taken after a run of up to n steps: the number of steps that were done is
 -- the difference of the counts of instructions, and it was cut within the last one where it failed

@@ -14,8 +14,9 @@ use Rattle.sim_safe.specs.declared.recording.RecordEnd.{RecordEnd}
 use Rattle.sim_safe.specs.declared.recording.RecordEnd.TheVariants as record_ends
 use Rattle.sim_safe.specs.declared.record.Peek.{Peek}
 use Rattle.sim_safe.specs.declared.record.Peek.TheVariants as peek
+use Rattle.paged_mem.specs.Memory.{Pages}
 use Rattle.sim_safe.specs.State.{State}
-use Rattle.sim_safe.specs.Step.{Outcome, Next, Halt, step_of}
+use Rattle.sim_safe.specs.Step.{Outcome, Next, Halt, step_of, TakesNoMemory}
 use Rattle.sim_safe.specs.Record.{Item}
 use Rattle.sim_safe.specs.Run.{items_of, after, end_of}
 
@@ -65,11 +66,15 @@ is_end_of_trace (peek.Plain i) = false
 is_end_of_trace (peek.Call note) = false
 is_end_of_trace (peek.Stop why) = is_trace_end why
 
--- a recorder is ready for the next step, or its trace is full
+-- whatever the first n steps write lies in pages that are reserved, and each call of theirs has its record
+abbrev pub AreRecorded : Trace → Pages → ℕ → State → Type 0
+AreRecorded trace pages n s = (k : ℕ) → k < n → TakesNoMemory trace pages (step_of trace (after trace k s)) × (wants_record (step_of trace (after trace k s)) ≡ false)
+
+-- a recorder is ready for the next step, or its trace is full; memory is wanting for a record alone
 abbrev pub Prepares : RecorderState → RecorderState → State → Result Bool OutOfMemory → Type 0
 Prepares old new s (Ok true) = ready serve old.world old.trace s ≡ Some (new.world, new.trace)
 Prepares old new s (Ok false) = (ready serve old.world old.trace s ≡ None) × (new.trace ≡ old.trace)
-Prepares old new s (Err _) = new.trace ≡ old.trace
+Prepares old new s (Err _) = (new.trace ≡ old.trace) × (wants_record (step_of old.trace s) ≡ true)
 
 -- what a run that was given up did is a front of the recorded run: its records and items are the first
 -- ones, and its state is one on the way

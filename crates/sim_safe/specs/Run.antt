@@ -1,12 +1,13 @@
 -- Whole runs: what the first n steps from a state do, and how they end.
-use Rattle.std.specs.Prelude.{◌≡◌, ◌++◌, ◌≤◌, ℕ, zero, suc, List, [], ◌∷◌, length, Option, Some, None}
+use Rattle.std.specs.Prelude.{◌≡◌, ◌++◌, ◌<◌, ◌≤◌, ℕ, zero, suc, List, [], ◌∷◌, length, Option, Some, None}
 use Rattle.std.proofs.Common.{refl, ap, arith}
 use Rattle.pisa_step.specs.declared.cause.Cause.TheVariants as cause
 use Rattle.sim_safe.specs.declared.observer.RunEnd.{RunEnd}
 use Rattle.sim_safe.specs.declared.observer.RunEnd.TheVariants as ends
 use Rattle.event_trace.specs.declared.trace.Trace.{Trace}
+use Rattle.paged_mem.specs.Memory.{Pages}
 use Rattle.sim_safe.specs.State.{State}
-use Rattle.sim_safe.specs.Step.{Outcome, Next, Halt, step_of}
+use Rattle.sim_safe.specs.Step.{Outcome, Next, Halt, step_of, TakesNoMemory}
 use Rattle.sim_safe.specs.Record.{Item, item_of}
 
 abbrev pub items_more : Trace → (State → List Item) → Outcome → List Item
@@ -26,6 +27,10 @@ after_more rest old (Halt why) = old
 unfoldable pub after : Trace → ℕ → State → State
 after trace zero s = s
 after trace (suc n) s = after_more (after trace n) s (step_of trace s)
+
+-- whatever the first n steps write lies in pages that are reserved
+abbrev pub WriteReserved : Trace → Pages → ℕ → State → Type 0
+WriteReserved trace pages n s = (k : ℕ) → k < n → TakesNoMemory trace pages (step_of trace (after trace k s))
 
 abbrev pub end_more : (State → RunEnd) → Outcome → RunEnd
 end_more rest (Next r s) = rest s

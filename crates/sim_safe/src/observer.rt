@@ -2,9 +2,12 @@
 ghost use Rattle.std.specs.Prelude.{◌≡◌, ◌+◌, ◌^◌, ◌<◌, ℕ, List, [], ◌∷◌};
 ghost use Rattle.sim_safe.specs.declared.observer.Meaning.{Meaning};
 ghost use Rattle.sim_safe.specs.Record.{Item, IsRunTrace, item_of};
-ghost use Rattle.sim_safe.specs.Observed.{SawCounts, Saw, RunCounts, RunTook, RunState};
-ghost use Rattle.sim_safe.specs.Advance.{AdvanceCounts, AdvanceState, AdvanceTook};
+ghost use Rattle.paged_mem.specs.Memory.{IsReserved};
+ghost use Rattle.sim_safe.specs.Observed.{SawCounts, Saw, SawWithoutMemory, RunCounts, RunMemory, RunTook, RunState};
+ghost use Rattle.sim_safe.specs.Advance.{AdvanceCounts, AdvanceMemory, AdvanceState, AdvanceTook};
+ghost use Rattle.sim_safe.specs.Run.{WriteReserved};
 ghost use Rattle.sim_safe.specs.State.{state_of};
+ghost use Rattle.sim_safe.specs.Step.{step_of, TakesNoMemory};
 
 use crate::arch::Arch;
 use crate::record::{CommitRecord, Stepped};
@@ -39,11 +42,16 @@ pub trait Observer {
     /// What a fault comes from.
     ghost means: { Self.Fault → Meaning };
 
+    /// It takes no memory, now and from now on: no call fails with a fault that means memory. An
+    /// observer that doesn't say may take some at each call.
+    ghost takes_no_memory: { Self → Type 0 } = { λ _. ⊥ };
+
     /// Takes the record of an instruction that was done over a trace.
     fn saw(&mut self, r: &CommitRecord, trace: &Trace) -> Result<(), Self::Fault>
         requires { IsRunTrace trace.now }
         ensures took { (start : Self) (h : List Item) → took start h self.old → Saw took cut start (item_of trace.now r.now ∷ h) self.new result }
-        ensures count { SawCounts means (faults self.old) (faults self.new) result };
+        ensures count { SawCounts means (faults self.old) (faults self.new) result }
+        ensures memory { takes_no_memory self.old → SawWithoutMemory takes_no_memory means self.new result };
 
     /// A value that has taken nothing is as it was.
     ghost took_none: { (o : Self) → took o [] o };
@@ -83,6 +91,8 @@ impl Arch {
         ensures took { (start : O) (h : List Item) → O.took start h o.old → AdvanceTook O.took O.cut trace.now (state_of self.old) (state_of self.new) start h o.new result }
         ensures state { AdvanceState trace.now (state_of self.old) (state_of self.new) result }
         ensures count { AdvanceCounts O.means (O.faults o.old) (O.faults o.new) result }
+        ensures pages { (number : ℕ) → IsReserved self.old.pages number → IsReserved self.new.pages number }
+        ensures memory { AdvanceMemory O.takes_no_memory O.means (TakesNoMemory trace.now self.old.pages (step_of trace.now (state_of self.old))) o.old o.new result }
     {
         match self.step(trace) {
             Err(_) => Advance::Failed(RunFault::OutOfMemory),
@@ -100,6 +110,9 @@ impl Arch {
     /// end, and only there; with a budget of 0 always. After a fault the state is that after the
     /// steps that were done; the observer has taken their records, and where it failed itself, all
     /// but the last.
+    ///
+    /// Where all that the steps write lies in reserved pages, the run itself finds memory; over an
+    /// observer that takes none it then never wants any.
     #[tactic(auto, using(crate::proofs::Steps::items_none, crate::proofs::Steps::reaches_none, crate::proofs::Steps::reaches_on, crate::proofs::Steps::onto_on, crate::proofs::Steps::items_stop, crate::proofs::Steps::after_stop, crate::proofs::Steps::end_stop, crate::proofs::Steps::after_all, crate::proofs::Steps::end_all))]
     pub fn run<O: Observer>(
         &mut self,
@@ -112,6 +125,8 @@ impl Arch {
         ensures took { (start : O) (h : List Item) → O.took start h o.old → RunTook O.took O.cut trace.now n (state_of self.old) (state_of self.new) start h o.new result }
         ensures state { RunState trace.now n (state_of self.old) (state_of self.new) result }
         ensures count { RunCounts O.means (O.faults o.old) (O.faults o.new) result }
+        ensures pages { (number : ℕ) → IsReserved self.old.pages number → IsReserved self.new.pages number }
+        ensures memory { RunMemory O.takes_no_memory O.means (WriteReserved trace.now self.old.pages n (state_of self.old)) o.old o.new result }
     {
         if n == 0 {
             return Ok(RunEnd::Limit);

@@ -1,10 +1,11 @@
 //! Runs that are recorded: each call that finds no record left is answered by the closed world.
 ghost use Rattle.std.specs.Prelude.{◌≡◌, ◌+◌, ◌^◌, ◌≤◌, ℕ, List, ◌∷◌, true, slice_index, IfOk};
+ghost use Rattle.paged_mem.specs.Memory.{IsReserved};
 ghost use Rattle.event_trace.specs.Recorder.{next_count};
 ghost use Rattle.sim_safe.specs.State.{state_of, reader_of};
 ghost use Rattle.sim_safe.specs.Record.{Item, IsRunTrace};
-ghost use Rattle.sim_safe.specs.Observed.{RunCounts, RunTook};
-ghost use Rattle.sim_safe.specs.Recording.{is_trace_end, is_end_of_trace, wants_record, Prepares, Records, RecordState};
+ghost use Rattle.sim_safe.specs.Observed.{RunCounts, RunMemory, RunTook};
+ghost use Rattle.sim_safe.specs.Recording.{is_trace_end, is_end_of_trace, wants_record, AreRecorded, Prepares, Records, RecordState};
 ghost use Rattle.sim_safe.specs.Step.{step_of};
 
 use crate::arch::Arch;
@@ -78,6 +79,9 @@ impl Arch {
     /// After a fault the state is that after the steps that were done, and the run over the trace
     /// that is left does them again. They are the first steps of the whole recording, the one
     /// without a fault: the run over its trace begins with what was shown, and comes to this state.
+    ///
+    /// Where all that the steps write lies in reserved pages and each call finds its record, the run
+    /// itself finds memory; over an observer that takes none it then never wants any.
     #[tactic(auto, using(crate::proofs::Steps::items_none, crate::proofs::Steps::reaches_none, crate::proofs::Steps::after_all, crate::proofs::Steps::end_all))]
     pub fn record<O: Observer>(
         &mut self,
@@ -92,6 +96,8 @@ impl Arch {
         ensures took { (start : O) (h : List Item) → O.took start h o.old → RunTook O.took O.cut recorder.new.trace n (state_of self.old) (state_of self.new) start h o.new result }
         ensures state { RecordState recorder.new.trace n (state_of self.old) (state_of self.new) result }
         ensures count { RunCounts O.means (O.faults o.old) (O.faults o.new) result }
+        ensures pages { (number : ℕ) → IsReserved self.old.pages number → IsReserved self.new.pages number }
+        ensures memory { RunMemory O.takes_no_memory O.means (AreRecorded recorder.new.trace self.old.pages n (state_of self.old)) o.old o.new result }
     {
         if n == 0 {
             return Ok(RecordEnd::Run(RunEnd::Limit));

@@ -1,14 +1,13 @@
 //! Lines, ends and counts against texts that were worked out by hand.
-ghost use Rattle.std.specs.Prelude.{IfOk};
 ghost use Rattle.sim_safe.specs.Record.{IsRunTrace};
 
+use crate::tests::trace_of;
 use crate::{CallNote, CommitRecord, RunEnd, Statistics, commit_line, emitted, push_end};
 use arrayvec::ArrayVec;
-use event_trace::{CallKind, Trace, read};
+use event_trace::{CallKind, Trace};
 use pisa_isa::{Instr, Op};
 use pisa_step::{Cause, Field, MemWrite};
 use std::alloc::Global;
-use std::test::Fail;
 
 /// A break call, the putting out of `hello` and a newline, and an exit with code 0. Version 1.
 const HELLO: [u8; 170] = [
@@ -37,13 +36,6 @@ const READS: [u8; 184] = [
     0, 0x20, 2, 0, 0, 0, 0x0a, 0xb0,
 ];
 
-/// The trace that a file brings.
-fn trace(alloc: Global, bytes: &[u8]) -> Result<Trace, Fail>
-    ensures { IfOk result (λ t. IsRunTrace t) }
-{
-    Ok(read(alloc, bytes)?)
-}
-
 /// An instruction of which nothing but the operation is told.
 fn instr(op: Op) -> Instr {
     Instr {
@@ -57,126 +49,207 @@ fn instr(op: Op) -> Instr {
     }
 }
 
-/// An instruction that wrote these registers.
-fn did(number: u64, pc: u32, op: Op, regs: &[(u8, u32)]) -> Result<CommitRecord, Fail> {
-    let mut all = ArrayVec::new();
-    for item in regs {
-        all.try_push(*item)?;
-    }
-    Ok(CommitRecord {
-        number,
-        pc,
-        instr: instr(op),
-        next: 0,
-        taken: false,
-        regs: all,
-        hi: None,
-        lo: None,
-        mem: None,
-        access: None,
-        call: None,
-    })
-}
-
-/// A call that wrote these registers.
-fn called(
+/// What is told of an instruction that was done.
+#[derive(Clone, Copy)]
+struct Row<'a> {
     number: u64,
     pc: u32,
-    regs: &[(u8, u32)],
-    note: (u32, CallKind, u32),
-) -> Result<CommitRecord, Fail> {
-    let (used, kind, code) = note;
-    let mut r = did(number, pc, Op::Syscall, regs)?;
-    r.call = Some(CallNote { used, kind, code });
-    Ok(r)
+    op: Op,
+    /// The registers that it wrote.
+    regs: &'a [(u8, u32)],
+    /// What HI and LO got.
+    product: Option<(u32, u32)>,
+    /// The address and the bytes of a store.
+    store: Option<(u32, &'a [u8])>,
+    /// The number of the used record, the kind and the exit code of a call.
+    call: Option<CallNote>,
+}
+
+/// An instruction that wrote these registers.
+fn plain<'a>(number: u64, pc: u32, op: Op, regs: &'a [(u8, u32)]) -> Row<'a> {
+    Row {
+        number,
+        pc,
+        op,
+        regs,
+        product: None,
+        store: None,
+        call: None,
+    }
+}
+
+/// An instruction that wrote HI and LO.
+fn product<'a>(number: u64, pc: u32, op: Op, hi: u32, lo: u32) -> Row<'a> {
+    Row {
+        product: Some((hi, lo)),
+        ..plain(number, pc, op, &[])
+    }
 }
 
 /// A store of these bytes.
-fn stored(number: u64, pc: u32, op: Op, addr: u32, bytes: &[u8]) -> Result<CommitRecord, Fail> {
-    let mut all = ArrayVec::new();
-    for byte in bytes {
-        all.try_push(*byte)?;
+fn stored<'a>(number: u64, pc: u32, op: Op, addr: u32, bytes: &'a [u8]) -> Row<'a> {
+    Row {
+        store: Some((addr, bytes)),
+        ..plain(number, pc, op, &[])
     }
-    let mut r = did(number, pc, op, &[])?;
-    r.mem = Some(MemWrite { addr, bytes: all });
-    Ok(r)
+}
+
+/// A call that wrote these registers.
+fn called<'a>(
+    number: u64,
+    pc: u32,
+    regs: &'a [(u8, u32)],
+    used: u32,
+    kind: CallKind,
+    code: u32,
+) -> Row<'a> {
+    Row {
+        call: Some(CallNote { used, kind, code }),
+        ..plain(number, pc, Op::Syscall, regs)
+    }
+}
+
+/// Up to eight items; those above are left out.
+fn few<T: Copy + Default>(items: &[T]) -> ArrayVec<T, 8> {
+    let mut all = ArrayVec::new();
+    for item in items {
+        let _ = all.try_push(*item);
+    }
+    all
+}
+
+/// The record of an instruction that was done.
+fn did(row: &Row<'_>) -> CommitRecord {
+    CommitRecord {
+        number: row.number,
+        pc: row.pc,
+        instr: instr(row.op),
+        next: 0,
+        taken: false,
+        regs: few(row.regs),
+        hi: row.product.map(|both| both.0),
+        lo: row.product.map(|both| both.1),
+        mem: row.store.map(|(addr, bytes)| MemWrite {
+            addr,
+            bytes: few(bytes),
+        }),
+        access: None,
+        call: row.call,
+    }
+}
+
+/// Whether these instructions have these lines over a trace.
+fn lines_are(alloc: Global, trace: &Trace, rows: &[Row<'_>], lines: &[u8]) -> bool
+    requires { IsRunTrace trace.now }
+{
+    let mut text = Vec::new(alloc);
+    for row in rows {
+        if commit_line(&did(row), trace, &mut text).is_err() {
+            return false;
+        }
+    }
+    text.as_slice() == lines
+}
+
+/// Whether an instruction puts out these blocks over a trace.
+fn emits(trace: &Trace, row: &Row<'_>, blocks: &[&[u8]]) -> bool {
+    let record = did(row);
+    let found = emitted(&record, trace);
+    found.len() == blocks.len()
+        && found
+            .iter()
+            .zip(blocks)
+            .all(|(block, bytes)| block.bytes.as_slice() == *bytes)
 }
 
 #[test]
-fn lines_tell_what_was_written(rt: HostRuntime) -> Result<(), Fail> {
-    let none = Trace::absent(rt.alloc());
-    let mut text = Vec::new(rt.alloc());
-    commit_line(
-        &did(0, 0x0040_0000, Op::Addiu, &[(2, 1)])?,
-        &none,
-        &mut text,
-    )?;
-    commit_line(
-        &did(1, 0x0040_0008, Op::Addiu, &[(4, 7)])?,
-        &none,
-        &mut text,
-    )?;
-    let exit = called(2, 0x0040_0010, &[], (0, CallKind::Exit, 7))?;
-    commit_line(&exit, &none, &mut text)?;
-    let product = CommitRecord {
-        hi: Some(0xffff_fffe),
-        lo: Some(1),
-        ..did(3, 0x0040_0018, Op::Multu, &[])?
-    };
-    commit_line(&product, &none, &mut text)?;
-    let pair = did(4, 0xffff_fff8, Op::Dlw, &[(30, 0xdead_beef), (31, 0)])?;
-    commit_line(&pair, &none, &mut text)?;
-    let bytes = [0, 1, 0x7f, 0x80, 0xfe, 0xff, 0x0a, 0xa0];
-    let store = stored(1_000_000_000_000_000, 0x20, Op::Dsw, 0xffff_fff8, &bytes)?;
-    commit_line(&store, &none, &mut text)?;
-    let expected = b"0 00400000 ADDIU r2=00000001\n1 00400008 ADDIU r4=00000007\n\
+fn lines_tell_what_was_written(rt: HostRuntime) {
+    let exit = called(2, 0x0040_0010, &[], 0, CallKind::Exit, 7);
+    let rows = [
+        plain(0, 0x0040_0000, Op::Addiu, &[(2, 1)]),
+        plain(1, 0x0040_0008, Op::Addiu, &[(4, 7)]),
+        exit,
+        product(3, 0x0040_0018, Op::Multu, 0xffff_fffe, 1),
+        plain(4, 0xffff_fff8, Op::Dlw, &[(30, 0xdead_beef), (31, 0)]),
+        stored(
+            1_000_000_000_000_000,
+            0x20,
+            Op::Dsw,
+            0xffff_fff8,
+            &[0, 1, 0x7f, 0x80, 0xfe, 0xff, 0x0a, 0xa0],
+        ),
+    ];
+    let lines = b"0 00400000 ADDIU r2=00000001\n1 00400008 ADDIU r4=00000007\n\
         2 00400010 SYSCALL call=0 exit=7\n3 00400018 MULTU hi=fffffffe lo=00000001\n\
         4 fffffff8 DLW r30=deadbeef r31=00000000\n\
         1000000000000000 00000020 DSW [fffffff8]=00017f80feff0aa0\n";
-    assert!(rt; text.as_slice() == expected.as_slice());
-    assert_eq!(rt; emitted(&exit, &none).len(), 0);
-    Ok(())
+    let none = Trace::absent(rt.alloc());
+    let agree = lines_are(rt.alloc(), &none, &rows, lines) && emits(&none, &exit, &[]);
+    assert!(rt; agree);
+}
+
+/// Whether these instructions have these lines over the trace that a file brings, and the last of
+/// them puts out these blocks.
+fn trace_lines_are(
+    alloc: Global,
+    file: &[u8],
+    rows: &[Row<'_>],
+    lines: &[u8],
+    outputs: &[(Row<'_>, &[&[u8]])],
+) -> bool {
+    let Some(trace) = trace_of(alloc, file) else {
+        return false;
+    };
+    lines_are(alloc, &trace, rows, lines)
+        && outputs
+            .iter()
+            .all(|(row, blocks)| emits(&trace, row, blocks))
 }
 
 #[test]
-fn lines_tell_what_calls_wrote_and_put_out(rt: HostRuntime) -> Result<(), Fail> {
-    let hello = trace(rt.alloc(), &HELLO)?;
-    let mut text = Vec::new(rt.alloc());
-    let heap = called(
-        2,
-        0x0040_0150,
-        &[(2, 0x1001_0000), (7, 0)],
-        (0, CallKind::Plain, 0),
-    )?;
-    commit_line(&heap, &hello, &mut text)?;
-    let word = stored(5, 0x0040_0168, Op::Sw, 0x1000_9000, &[0, 0, 1, 0x10])?;
-    commit_line(&word, &hello, &mut text)?;
-    let output = called(11, 0x0040_0198, &[(2, 6), (7, 0)], (1, CallKind::Emit, 0))?;
-    commit_line(&output, &hello, &mut text)?;
-    let exit = called(14, 0x0040_01b0, &[], (2, CallKind::Exit, 0))?;
-    commit_line(&exit, &hello, &mut text)?;
-    let reads = trace(rt.alloc(), &READS)?;
-    let read = called(4, 0x0040_0020, &[(2, 3), (7, 0)], (0, CallKind::Plain, 0))?;
-    commit_line(&read, &reads, &mut text)?;
-    let refused = called(5, 0x0040_0008, &[(2, 22), (7, 1)], (1, CallKind::Plain, 0))?;
-    commit_line(&refused, &reads, &mut text)?;
-    let both = called(6, 0x0040_0028, &[], (2, CallKind::Emit, 0))?;
-    commit_line(&both, &reads, &mut text)?;
-    let expected = b"2 00400150 SYSCALL r2=10010000 r7=00000000 call=0\n\
+fn lines_tell_what_calls_wrote_and_put_out(rt: HostRuntime) {
+    let output = called(11, 0x0040_0198, &[(2, 6), (7, 0)], 1, CallKind::Emit, 0);
+    let hello = [
+        called(
+            2,
+            0x0040_0150,
+            &[(2, 0x1001_0000), (7, 0)],
+            0,
+            CallKind::Plain,
+            0,
+        ),
+        stored(5, 0x0040_0168, Op::Sw, 0x1000_9000, &[0, 0, 1, 0x10]),
+        output,
+        called(14, 0x0040_01b0, &[], 2, CallKind::Exit, 0),
+    ];
+    let hello_lines = b"2 00400150 SYSCALL r2=10010000 r7=00000000 call=0\n\
         5 00400168 SW [10009000]=00000110\n\
         11 00400198 SYSCALL r2=00000006 r7=00000000 call=1 emit=6\n\
-        14 004001b0 SYSCALL call=2 exit=0\n\
-        4 00400020 SYSCALL r2=00000003 r7=00000000 [10000000]=616263 call=0\n\
+        14 004001b0 SYSCALL call=2 exit=0\n";
+    let read = called(4, 0x0040_0020, &[(2, 3), (7, 0)], 0, CallKind::Plain, 0);
+    let both = called(6, 0x0040_0028, &[], 2, CallKind::Emit, 0);
+    let reads = [
+        read,
+        called(5, 0x0040_0008, &[(2, 22), (7, 1)], 1, CallKind::Plain, 0),
+        both,
+    ];
+    let reads_lines = b"4 00400020 SYSCALL r2=00000003 r7=00000000 [10000000]=616263 call=0\n\
         5 00400008 SYSCALL r2=00000016 r7=00000001 call=1\n\
         6 00400028 SYSCALL [30000000]=ff [20000004]=0ab0 call=2 emit=6\n";
-    assert!(rt; text.as_slice() == expected.as_slice());
-    for block in emitted(&output, &hello) {
-        assert!(rt; block.bytes.as_slice() == b"hello\n".as_slice());
-    }
-    assert_eq!(rt; emitted(&output, &hello).len(), 1);
-    assert_eq!(rt; emitted(&both, &reads).len(), 2);
-    assert_eq!(rt; emitted(&read, &reads).len(), 0);
-    Ok(())
+    let agree = trace_lines_are(
+        rt.alloc(),
+        &HELLO,
+        &hello,
+        hello_lines,
+        &[(output, &[b"hello\n"])],
+    ) && trace_lines_are(
+        rt.alloc(),
+        &READS,
+        &reads,
+        reads_lines,
+        &[(both, &[&[1, 2, 3], &[4, 5, 6]]), (read, &[])],
+    );
+    assert!(rt; agree);
 }
 
 /// A call that differs from its record.
@@ -184,8 +257,22 @@ fn differs(field: Field, kept: u64, found: u64) -> RunEnd {
     RunEnd::Stop(Cause::TraceMismatch { field, kept, found })
 }
 
+/// Whether each of these ends, at 0x00400004 after 12 instructions, is told in these words.
+fn are_told(alloc: Global, rows: &[(RunEnd, &str)]) -> bool {
+    let mut text = Vec::new(alloc);
+    for (end, words) in rows {
+        text.clear();
+        if push_end(&mut text, *end, 0x0040_0004, 12).is_err()
+            || text.as_slice() != words.as_bytes()
+        {
+            return false;
+        }
+    }
+    true
+}
+
 #[test]
-fn ends_are_told_in_words(rt: HostRuntime) -> Result<(), Fail> {
+fn ends_are_told_in_words(rt: HostRuntime) {
     let table = [
         (RunEnd::Limit, "budget"),
         (RunEnd::Stop(Cause::Exited { code: 7 }), "exited 7"),
@@ -240,51 +327,54 @@ fn ends_are_told_in_words(rt: HostRuntime) -> Result<(), Fail> {
             "stopped 00400004 12 trace-mismatch [0000fffe] 0 255",
         ),
     ];
-    for (end, expected) in table {
-        let mut text = Vec::new(rt.alloc());
-        push_end(&mut text, end, 0x0040_0004, 12)?;
-        assert!(rt; text.as_slice() == expected.as_bytes(), "{expected}");
+    assert!(rt; are_told(rt.alloc(), &table));
+}
+
+/// What so many operations count, in turn.
+fn counted(instrs: &[Instr]) -> Statistics {
+    let mut all = Statistics::none();
+    for instr in instrs {
+        all.count(instr);
     }
-    Ok(())
+    all
+}
+
+/// Whether counts, where so many instructions were skipped, have these lines.
+fn counts_are(alloc: Global, counts: &Statistics, skipped: u64, lines: &[u8]) -> bool {
+    let mut text = Vec::new(alloc);
+    counts.push(skipped, &mut text).is_ok() && text.as_slice() == lines
 }
 
 #[test]
-fn instructions_are_counted_by_what_they_do(rt: HostRuntime) -> Result<(), Fail> {
-    let mut some = Statistics::none();
-    for op in [Op::Addiu, Op::Addiu, Op::Syscall] {
-        some.count(&instr(op));
-    }
-    let mut text = Vec::new(rt.alloc());
-    some.push(0, &mut text)?;
-    let expected = b"sim_skipped 0\nsim_num_insn 3\nsim_num_loads 0\nsim_num_stores 0\n\
+fn instructions_are_counted_by_what_they_do(rt: HostRuntime) {
+    let some = counted(&[Op::Addiu, Op::Addiu, Op::Syscall].map(|op| instr(op)));
+    let lines = b"sim_skipped 0\nsim_num_insn 3\nsim_num_loads 0\nsim_num_stores 0\n\
         sim_num_branches 0\nsim_num_calls 1\n";
-    assert!(rt; text.as_slice() == expected.as_slice());
     // a load, two stores, three kinds of jumps, a branch, a return, a call, and what is none of these
-    let mut all = Statistics::none();
-    for op in [
-        Op::Lwl,
-        Op::Dsz,
-        Op::SbRr,
-        Op::J,
-        Op::Jal,
-        Op::Jalr,
-        Op::Bgez,
-        Op::Syscall,
-        Op::Mult,
-        Op::Bc1t,
-        Op::LS,
-        Op::SD,
-    ] {
-        all.count(&instr(op));
-    }
-    all.count(&Instr {
-        rs: 31,
-        ..instr(Op::Jr)
-    });
-    assert_eq!(rt; all.insn, 13);
-    assert_eq!(rt; all.loads, 1);
-    assert_eq!(rt; all.stores, 2);
-    assert_eq!(rt; all.branches, 5);
-    assert_eq!(rt; all.calls, 1);
-    Ok(())
+    let all = counted(&[
+        instr(Op::Lwl),
+        instr(Op::Dsz),
+        instr(Op::SbRr),
+        instr(Op::J),
+        instr(Op::Jal),
+        instr(Op::Jalr),
+        instr(Op::Bgez),
+        instr(Op::Syscall),
+        instr(Op::Mult),
+        instr(Op::Bc1t),
+        instr(Op::LS),
+        instr(Op::SD),
+        Instr {
+            rs: 31,
+            ..instr(Op::Jr)
+        },
+    ]);
+    let want = Statistics {
+        insn: 13,
+        loads: 1,
+        stores: 2,
+        branches: 5,
+        calls: 1,
+    };
+    assert!(rt; counts_are(rt.alloc(), &some, 0, lines) && all == want);
 }

@@ -5,14 +5,14 @@ use Rattle.sim_safe.specs.State.{state_of}
 use Rattle.sim_safe.specs.Record.{Item}
 use Rattle.sim_safe.specs.declared.recording.RecordEnd.{RecordEnd}
 use Rattle.sim_safe.specs.Commit.{onto}
-use Rattle.sim_safe.specs.Step.{Next, Halt, step_of}
+use Rattle.sim_safe.specs.Step.{Next, Halt, step_of, TakesNoMemory}
 use Rattle.sim_safe.specs.Run.{items_of}
-use Rattle.sim_safe.specs.Advance.{AdvanceState, AdvanceTook}
+use Rattle.sim_safe.specs.Advance.{AdvanceMemory, AdvanceState, AdvanceTook}
 use Rattle.sim_safe.specs.declared.observer.Advance.TheVariants.{Going, Failed}
-use Rattle.sim_safe.specs.Recording.{recording, serve}
+use Rattle.sim_safe.specs.Recording.{recording, serve, AreRecorded}
 use Rattle.sim_safe.proofs.Steps.{reaches_on, onto_on}
-use Rattle.sim_safe.proofs.Runs.{failed_took, stopped_took, stopped_state, none_state}
-use Rattle.sim_safe.proofs.Recorded.{prepared_true, prepared_false, reaches_ready, items_ready, recording_on, recording_over, recording_full, recording_none, full_stops, full_state, recorded_failed, front_failed, front_unready}
+use Rattle.sim_safe.proofs.Runs.{failed_memory, failed_took, step_takes, stopped_took, stopped_state, none_state}
+use Rattle.sim_safe.proofs.Recorded.{prepared_true, prepared_false, reaches_ready, items_ready, recording_on, recording_over, recording_full, recording_none, full_stops, full_state, recorded_failed, front_failed, front_unready, unready_memory}
 use Rattle.sim_safe.proofs.arch.Arch.record.Goals as goal
 
 pub returns-then-n-eq0-clause-trace : goal.returns-then-n-eq0-clause-trace
@@ -47,7 +47,7 @@ returns-in-Err-clause-trace g c =
     let whole = recording serve c.args.n c.args.recorder.now.world c.args.recorder.now.trace (state_of c.args.self.now) in
     front_unready (c.args.n - c.loop-done.done) whole c.loop-done.recorder.world c.loop-done.recorder.trace c.prepare.new.recorder.trace
     c.args.n c.loop-done.done (state_of c.args.self.now) (state_of c.loop-done.self)
-    c.loop-done.invariant.calls c.in-Err.ensures.ready c.in-Err.ensures.file c.loop-done-test.true c.loop-done.invariant.reaches c.loop-done.invariant.icnt
+    c.loop-done.invariant.calls c.in-Err.ensures.ready.0 c.in-Err.ensures.file c.loop-done-test.true c.loop-done.invariant.reaches c.loop-done.invariant.icnt
 
 pub returns-in-Ended-clause-trace : goal.returns-in-Ended-clause-trace
 returns-in-Ended-clause-trace g c =
@@ -148,6 +148,8 @@ loop-done-preserved g c =
           subst R (sym (onto_on T c.loop-done.done (state_of c.args.self.now) (state_of c.loop-done.self) (state_of c.advance.new.self) d h reach next))
           (subst U c.trace.ensures.same (c.in-Going.ensures.took start h2 (subst Q same (c.loop-done.invariant.took start h k))) d next);
       count = c.in-Going.ensures.count ∙ c.loop-done.invariant.count;
+      pages = λ n h. c.in-Going.ensures.pages n (c.loop-done.invariant.pages n h);
+      memory = λ k. c.in-Going.ensures.memory (c.loop-done.invariant.memory k);
       rising = omega (arith, one, c.in-Ok-true.ensures.rising);
       calls = sym (recording_on (c.args.n - c.loop-done.done) c.loop-done.recorder.world c.loop-done.recorder.trace (state_of c.loop-done.self) c.prepare.new.recorder.world T d (state_of c.advance.new.self) more r next
           ∙ ap (λ x. recording serve x c.prepare.new.recorder.world T (state_of c.advance.new.self)) less) ∙ c.loop-done.invariant.calls;
@@ -160,3 +162,24 @@ returns-in-Some-clause-trace g c =
 pub returns-in-None-clause-trace : goal.returns-in-None-clause-trace
 returns-in-None-clause-trace g c =
     sym c.loop-done.invariant.calls ∙ recording_none (c.args.n - c.loop-done.done) c.loop-done.recorder.world c.loop-done.recorder.trace (state_of c.loop-done.self) (omega (arith, c.loop-done-test.false))
+
+pub returns-in-Err-clause-memory : goal.returns-in-Err-clause-memory
+returns-in-Err-clause-memory g c = (
+  c.loop-done.invariant.memory,
+  unready_memory c.loop-done.recorder.trace c.prepare.new.recorder.trace c.args.self.now.pages c.args.n c.loop-done.done (state_of c.args.self.now) (state_of c.loop-done.self)
+      c.in-Err.ensures.ready.0 c.in-Err.ensures.ready.1 c.loop-done-test.true c.loop-done.invariant.reaches,
+)
+
+pub returns-in-Failed-clause-memory : goal.returns-in-Failed-clause-memory
+returns-in-Failed-clause-memory g c =
+    let O = g.O.Observer in
+    let T : Trace = c.prepare.new.recorder.trace in
+    let r = prepared_true c.loop-done.recorder c.prepare.new.recorder (state_of c.loop-done.self) c.in-Ok-true.field-0 c.in-Ok-true.field-0-test c.in-Ok-true.ensures.ready in
+    let F : Trace → Type 0 = λ x. x.file ≡ true in
+    let file : T.file ≡ true = subst F c.trace.ensures.same c.trace.ensures.valid.file in
+    let reach = reaches_ready c.loop-done.recorder.world c.loop-done.recorder.trace (state_of c.loop-done.self) c.prepare.new.recorder.world T c.loop-done.done (state_of c.args.self.now) (state_of c.loop-done.self) file r c.loop-done.invariant.reaches in
+    let M : Trace → Type 0 = λ x. AdvanceMemory O.takes_no_memory O.means (TakesNoMemory x c.loop-done.self.pages (step_of x (state_of c.loop-done.self))) c.loop-done.o c.advance.new.o (Failed c.in-Failed.fault) in
+    failed_memory RecordEnd (AreRecorded T c.args.self.now.pages c.args.n (state_of c.args.self.now)) O.takes_no_memory O.means
+    T (state_of c.loop-done.self) c.loop-done.self.pages c.args.o.now c.loop-done.o c.advance.new.o c.in-Failed.fault
+    (λ recorded. step_takes T c.args.n c.loop-done.done (state_of c.args.self.now) (state_of c.loop-done.self) c.args.self.now.pages c.loop-done.self.pages reach c.loop-done-test.true c.loop-done.invariant.pages (λ k d. (recorded k d).0))
+    c.loop-done.invariant.memory (subst M c.trace.ensures.same c.in-Failed.ensures.memory)

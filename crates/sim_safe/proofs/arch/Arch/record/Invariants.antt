@@ -1,6 +1,7 @@
-use Rattle.std.proofs.Common.{◌≡◌, ◌+◌, ◌-◌, ◌≤◌, List}
+use Rattle.std.proofs.Common.{◌≡◌, ◌+◌, ◌-◌, ◌≤◌, ℕ, List}
 use Rattle.event_trace.specs.Recorder.{next_count}
 use Rattle.sim_safe.specs.State.{state_of}
+use Rattle.paged_mem.specs.Memory.{IsReserved}
 use Rattle.sim_safe.specs.Record.{Item}
 use Rattle.sim_safe.specs.Commit.{onto}
 use Rattle.sim_safe.specs.Run.{items_of}
@@ -16,6 +17,8 @@ invariant-loop-done g l =
       icnt : l.self.icnt ≡ l.fn.self.icnt + l.done;
       took : (start : g.row.O.Denot) (h : List Item) → O.took start h l.fn.o → O.took start (onto (items_of l.recorder.trace l.done (state_of l.fn.self)) h) l.o;
       count : O.faults l.o ≡ O.faults l.fn.o;
+      pages : (number : ℕ) → IsReserved l.fn.self.pages number → IsReserved l.self.pages number;
+      memory : O.takes_no_memory l.fn.o → O.takes_no_memory l.o;
       rising : next_count 0 l.recorder.trace.records ≤ l.self.icnt;
       calls : recording serve (l.n - l.done) l.recorder.world l.recorder.trace (state_of l.self) ≡ recording serve l.n l.fn.recorder.world l.fn.recorder.trace (state_of l.fn.self);
     }

@@ -1,4 +1,5 @@
-use Rattle.std.proofs.Common.{◌≡◌, ◌+◌, List}
+use Rattle.std.proofs.Common.{◌≡◌, ◌+◌, ℕ, List}
+use Rattle.paged_mem.specs.Memory.{IsReserved}
 use Rattle.sim_safe.specs.Record.{Item}
 use Rattle.sim_safe.specs.Commit.{onto}
 use Rattle.sim_safe.specs.State.{state_of}
@@ -14,4 +15,6 @@ invariant-loop-done g l =
       icnt : l.self.icnt ≡ l.fn.self.icnt + l.done;
       took : (start : g.row.O.Denot) (h : List Item) → O.took start h l.fn.o → O.took start (onto (items_of l.trace l.done (state_of l.fn.self)) h) l.o;
       count : O.faults l.o ≡ O.faults l.fn.o;
+      pages : (number : ℕ) → IsReserved l.fn.self.pages number → IsReserved l.self.pages number;
+      memory : O.takes_no_memory l.fn.o → O.takes_no_memory l.o;
     }
