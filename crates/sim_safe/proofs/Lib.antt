@@ -1,6 +1,7 @@
 pub mod Steps
 pub mod Runs
 pub mod Calls
+pub mod Counts
 pub mod Growing
 pub mod Keeping
 pub mod Lists

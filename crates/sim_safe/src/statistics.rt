@@ -1,7 +1,8 @@
 //! What is counted of a run, and its lines of text.
-ghost use Rattle.std.specs.Prelude.{◌≡◌, ◌++◌, OnOk, OnErr};
+ghost use Rattle.std.specs.Prelude.{◌≡◌, ◌++◌, OnOk, OnErr, if◌then◌else◌};
 ghost use Rattle.ss_base.specs.Outside.{BeginsWith};
-ghost use Rattle.sim_safe.specs.Statistics.{no_statistics, counted, at_most, IsCountable, count_line, counts_text};
+ghost use Rattle.sim_safe.specs.Statistics.{no_statistics, load_count, store_count, branch_count, counted, at_most, IsCountable, count_line, counts_text};
+ghost use Rattle.sim_safe.specs.Step.{is_call};
 
 use crate::commit::push_bytes;
 use pisa_isa::{AccessKind, ControlKind, Instr, Op, access, control};
@@ -41,25 +42,21 @@ impl Statistics {
         ensures counts { self.new ≡ at_most (counted i.now self.old) }
         ensures exact { IsCountable self.old → self.new ≡ counted i.now self.old }
     {
-        let insn = self.insn.saturating_add(1);
+        *self = self.with(i);
+    }
+
+    /// The counts with one more instruction.
+    fn with(&self, i: &Instr) -> Statistics
+        ensures { result ≡ at_most (counted i.now self.now) }
+    {
         let accessed = access(i.op);
-        let loads = self
-            .loads
-            .saturating_add(u64::from(accessed == AccessKind::Load));
-        let stores = self
-            .stores
-            .saturating_add(u64::from(accessed == AccessKind::Store));
-        let branches = self
-            .branches
-            .saturating_add(u64::from(control(i) != ControlKind::Nothing));
-        let calls = self.calls.saturating_add(u64::from(i.op == Op::Syscall));
-        *self = Statistics {
-            insn,
-            loads,
-            stores,
-            branches,
-            calls,
-        };
+        Statistics {
+            insn: self.insn.saturating_add(1),
+            loads: self.loads.saturating_add(loads_in(accessed)),
+            stores: self.stores.saturating_add(stores_in(accessed)),
+            branches: self.branches.saturating_add(branches_in(control(i))),
+            calls: self.calls.saturating_add(calls_in(i.op)),
+        }
     }
 
     /// Adds the lines of how many instructions were skipped and of the counts. Want of memory leaves
@@ -75,6 +72,34 @@ impl Statistics {
         }
         pushed
     }
+}
+
+/// How many loads an access is.
+fn loads_in(accessed: AccessKind) -> u64
+    ensures { result ≡ load_count accessed }
+{
+    u64::from(accessed == AccessKind::Load)
+}
+
+/// How many stores an access is.
+fn stores_in(accessed: AccessKind) -> u64
+    ensures { result ≡ store_count accessed }
+{
+    u64::from(accessed == AccessKind::Store)
+}
+
+/// How many instructions that direct control one of a kind is.
+fn branches_in(directs: ControlKind) -> u64
+    ensures { result ≡ branch_count directs }
+{
+    u64::from(directs != ControlKind::Nothing)
+}
+
+/// How many system calls an operation is.
+fn calls_in(op: Op) -> u64
+    ensures { result ≡ (if is_call op then 1 else 0) }
+{
+    u64::from(op == Op::Syscall)
 }
 
 /// Adds a line with a name and a number, or a front of it.

@@ -8,6 +8,7 @@ use event_trace::{CallKind, Trace, read};
 use pisa_step::{Cause, Field, Machine};
 use ss_base::Bytes;
 use std::alloc::Global;
+use std::slice::from_ref;
 
 /// Where the instructions stand, and where the bytes a1 b2 c3 d4 do.
 const TEXT: u32 = 0x0040_0000;
@@ -96,7 +97,7 @@ fn start(alloc: Global, big: bool, words: Words) -> Option<Arch> {
     if !image.fits() {
         return None;
     }
-    match Arch::start(alloc, image, &[name]) {
+    match Arch::start(alloc, image, from_ref(&name)) {
         Ok(arch) => Some(arch),
         Err(_) => None,
     }
