@@ -21,10 +21,6 @@ mod recording;
 mod start;
 mod statistics;
 mod step;
-#[cfg(test)]
-mod tests;
-#[cfg(test)]
-mod texts_tests;
 
 pub use arch::Arch;
 pub use commit::{commit_line, emitted};

@@ -2,36 +2,36 @@
 ghost use Rattle.std.specs.Prelude.{IfSome};
 ghost use Rattle.sim_safe.specs.Record.{IsRunTrace};
 
-use crate::{Arch, CallNote, Peek, Stepped};
 use ecoff_load::{Image, Kind, Part, Parts, Text};
 use event_trace::{CallKind, Trace, read};
 use pisa_step::{Cause, Field, Machine};
+use sim_safe::{Arch, CallNote, Peek, Stepped};
 use ss_base::Bytes;
 use std::alloc::Global;
 use std::slice::from_ref;
 
 /// Where the instructions stand, and where the bytes a1 b2 c3 d4 do.
-const TEXT: u32 = 0x0040_0000;
+pub(crate) const TEXT: u32 = 0x0040_0000;
 
 const DATA: u32 = 0x1000_0000;
 
 /// The two words of each of four instructions.
-type Words = [u32; 8];
+pub(crate) type Words = [u32; 8];
 
 /// ADDIU $2,$0,1; ADDIU $2,$0,5; ADDIU $4,$0,7; LUI $1,0x40
-const R2_1: u32 = 0x0002_0001;
+pub(crate) const R2_1: u32 = 0x0002_0001;
 
-const R2_5: u32 = 0x0002_0005;
+pub(crate) const R2_5: u32 = 0x0002_0005;
 
-const R4_7: u32 = 0x0004_0007;
+pub(crate) const R4_7: u32 = 0x0004_0007;
 
 const R1_TEXT: u32 = 0x0001_0040;
 
-const ADDIU: u32 = 0x43;
+pub(crate) const ADDIU: u32 = 0x43;
 
-const LUI: u32 = 0xa2;
+pub(crate) const LUI: u32 = 0xa2;
 
-const SYSCALL: u32 = 0xa0;
+pub(crate) const SYSCALL: u32 = 0xa0;
 
 const SW: u32 = 0x34;
 
@@ -89,7 +89,7 @@ fn image(alloc: Global, big: bool, words: Words) -> Option<Image> {
 }
 
 /// A machine at the start of a program whose one argument is `p`.
-fn start(alloc: Global, big: bool, words: Words) -> Option<Arch> {
+pub(crate) fn start(alloc: Global, big: bool, words: Words) -> Option<Arch> {
     let image = image(alloc, big, words)?;
     let Ok(name) = "p".to_owned(alloc) else {
         return None;

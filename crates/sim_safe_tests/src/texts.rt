@@ -1,12 +1,12 @@
 //! Lines, ends and counts against texts that were worked out by hand.
 ghost use Rattle.sim_safe.specs.Record.{IsRunTrace};
 
-use crate::tests::trace_of;
-use crate::{CallNote, CommitRecord, RunEnd, Statistics, commit_line, emitted, push_end};
+use crate::programs::trace_of;
 use arrayvec::ArrayVec;
 use event_trace::{CallKind, Trace};
 use pisa_isa::{Instr, Op};
 use pisa_step::{Cause, Field, MemWrite};
+use sim_safe::{CallNote, CommitRecord, RunEnd, Statistics, commit_line, emitted, push_end};
 use std::alloc::Global;
 
 /// A break call, the putting out of `hello` and a newline, and an exit with code 0. Version 1.
