@@ -1,5 +1,5 @@
 -- The parts of an image, laid from the last section on.
-use Rattle.std.proofs.Common.{◌≡◌, ◌++◌, ◌∙◌, List, [], ◌∷◌, Option, Some, None, refl, sym, ap}
+use Rattle.std.proofs.Common.{◌≡◌, ◌++◌, List, [], ◌∷◌, Option, None, refl, ap}
 use Rattle.ecoff_load.specs.declared.image.Part.{Part}
 use Rattle.ecoff_load.specs.declared.image.Text.{Text}
 use Rattle.pisa_asm.specs.declared.sheet.Piece.{Piece}

@@ -1,8 +1,8 @@
 -- The pieces of bytes that are split, one after the other.
-use Rattle.std.proofs.Common.{◌≡◌, ◌+◌, ◌<◌, ◌≤◌, ◌∙◌, ℕ, suc, List, [], ◌∷◌, Bool, true, false, not, cond, nat_eq, nat_lt, ltb, Option, Some, None, length, take, drop, refl, sym, ap, subst, arith}
+use Rattle.std.proofs.Common.{◌≡◌, ◌+◌, ◌<◌, ◌≤◌, ◌∙◌, ℕ, suc, List, [], ◌∷◌, Bool, true, false, not, cond, nat_eq, nat_lt, Some, None, length, take, drop, refl, ap, arith}
 use Rattle.std.proofs.lemmas.List.Splits.{slice_split_first, slice_split-cons_no, length-slice_split}
 use Rattle.std.proofs.lemmas.Bool.Decides.{nat_tests}
-use Rattle.std.specs.List.{slice_split, position, position_or_len, onto_first, before_first, after_first}
+use Rattle.std.specs.List.{slice_split, position_or_len, onto_first}
 use Rattle.pisa_asm.specs.Letters.{lines_of, parted, parted_at, whole_lines}
 
 abbrev is : ℕ → ℕ → Bool

@@ -1,5 +1,5 @@
 -- A line that is printed for an instruction and read again.
-use Rattle.std.proofs.Common.{◌≡◌, ◌+◌, ◌-◌, ◌<◌, ◌≤◌, ◌∙◌, ◌^◌, ◌++◌, ◌&&◌, ℕ, suc, List, [], ◌∷◌, Bool, true, false, not, cond, nat_eq, nat_le, nat_lt, length, take, drop, map, position, Option, Some, None, Result, Ok, Err, refl, sym, ap, subst, arith, length-append}
+use Rattle.std.proofs.Common.{◌≡◌, ◌+◌, ◌<◌, ◌∙◌, ◌^◌, ◌++◌, ◌&&◌, ℕ, suc, List, [], ◌∷◌, Bool, true, false, not, cond, nat_eq, nat_le, nat_lt, length, take, drop, map, Option, Some, None, Result, Ok, Err, refl, sym, ap, arith, length-append}
 use Rattle.std.specs.List.{list_all, prefix_len, slice_split}
 use Rattle.std.proofs.lemmas.Bool.Decides.{nat_tests}
 use Rattle.std.proofs.lemmas.List.{append-nil, take_all}
@@ -20,10 +20,10 @@ use Rattle.pisa_asm.specs.declared.slots.Slot.{Slot}
 use Rattle.pisa_asm.specs.declared.slots.Slot.TheVariants as slot
 use Rattle.pisa_asm.specs.declared.statements.Command.{Command}
 use Rattle.pisa_asm.specs.declared.statements.Command.TheVariants as command
-use Rattle.pisa_asm.specs.Letters.{is_allowed, code_length, code_of, is_blank, operands_in, parted, trim, trim_end, trim_start}
+use Rattle.pisa_asm.specs.Letters.{is_allowed, code_length, code_of, is_blank, operands_in, parted, trim, trim_start}
 use Rattle.pisa_asm.specs.Operands.{Said, and_then, operand_says, say, slot_says, slots_of, then_}
 use Rattle.pisa_asm.specs.Printed.{instruction_text, operand_texts, slot_text}
-use Rattle.pisa_asm.specs.Statements.{Stated, Words, bare, command_named, known, labelled_line, nothing_said, places, stated, words_in, words_of, words_with, worded}
+use Rattle.pisa_asm.specs.Statements.{Stated, Words, bare, command_named, known, labelled_line, stated, words_in, words_of, words_with, worded}
 use Rattle.pisa_asm.specs.declared.sheet.Piece.{Piece}
 use Rattle.pisa_asm.specs.declared.sheet.Sheet.{Sheet}
 use Rattle.pisa_asm.specs.Sheets.{end_of, may_stand, takes_instructions, text_end}

@@ -1,5 +1,5 @@
 -- Names of statements that are printed and read again.
-use Rattle.std.proofs.Common.{◌≡◌, ◌<◌, ℕ, List, Bool, true, false, length, Some, refl, lit<}
+use Rattle.std.proofs.Common.{◌≡◌, ◌<◌, true, false, length, Some, refl, lit<}
 use Rattle.pisa_isa.specs.declared.instr.Op.{Op}
 use Rattle.pisa_isa.specs.declared.instr.Op.TheVariants as op
 use Rattle.pisa_isa.specs.Classes.{is_float_op}

@@ -1,15 +1,14 @@
 -- Numbers that are printed and read again.
-use Rattle.std.proofs.Common.{◌≡◌, ◌+◌, ◌-◌, ◌*◌, ◌/◌, ◌%◌, ◌^◌, ◌<◌, ◌≤◌, ◌∙◌, ◌&&◌, ◌||◌, ℕ, List, [], ◌∷◌, Bool, true, false, not, cond, min, nat_eq, nat_le, nat_lt, length, get_or, decimal, Option, Some, None, Result, Ok, Err, refl, sym, ap, subst, arith, rules, tests}
+use Rattle.std.proofs.Common.{◌≡◌, ◌+◌, ◌-◌, ◌*◌, ◌/◌, ◌%◌, ◌^◌, ◌<◌, ◌≤◌, ◌∙◌, ◌&&◌, ◌||◌, ℕ, List, [], ◌∷◌, Bool, true, false, not, cond, min, nat_eq, nat_le, nat_lt, length, get_or, decimal, Some, None, Ok, Err, refl, ap, arith, rules, tests}
 use Rattle.std.specs.List.{list_all}
 use Rattle.std.proofs.lemmas.Bool.Decides.{nat_tests}
 use Rattle.std.proofs.lemmas.Str.Parse.{IsNumeralModel, numerals_by_fold}
 use Rattle.std.proofs.lemmas.Fmt.{digits_decimal, digits_value-decimal, decimal_digit, decimal_nonempty, first_decimal}
 use Rattle.ss_base.specs.Text.{hex8, hex_digit}
-use Rattle.pisa_asm.specs.declared.fault.TextWhy.{TextWhy}
 use Rattle.pisa_asm.specs.declared.fault.TextWhy.TheVariants as why
 use Rattle.pisa_asm.specs.declared.tokens.Number.{Number}
-use Rattle.pisa_asm.specs.Tokens.{decimal_on, hex_digit_value, hex_on, is_decimal, is_digit, is_hex_digit, is_within, limited, limited_in, number_in, number_of, register_in, residue}
-use Rattle.pisa_asm.specs.Printed.{register_text, signed_text, target_text}
+use Rattle.pisa_asm.specs.Tokens.{decimal_on, hex_digit_value, hex_on, is_decimal, is_digit, is_hex_digit, limited, limited_in, number_in, number_of, register_in}
+use Rattle.pisa_asm.specs.Printed.{register_text, target_text}
 
 own : IsNumeralModel (λ ds. list_all is_digit ds ≡ true) (decimal_on 0)
 own = numerals_by_fold _ (search (rules, tests)) decimal_on (search rules)

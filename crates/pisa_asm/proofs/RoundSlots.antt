@@ -1,10 +1,10 @@
 -- What an operand says that was printed for an instruction.
-use Rattle.std.proofs.Common.{◌≡◌, ◌+◌, ◌-◌, ◌*◌, ◌/◌, ◌%◌, ◌^◌, ◌<◌, ◌≤◌, ◌∙◌, ◌++◌, ◌&&◌, ℕ, List, [], ◌∷◌, Bool, true, false, not, cond, min, nat_eq, nat_le, nat_lt, length, decimal, Option, Some, None, Result, Ok, Err, refl, sym, ap, subst, arith, lit≤, append_assoc, length-append}
-use Rattle.std.specs.List.{list_all}
+use Rattle.std.proofs.Common.{◌≡◌, ◌+◌, ◌-◌, ◌*◌, ◌/◌, ◌%◌, ◌^◌, ◌<◌, ◌≤◌, ◌∙◌, ◌++◌, ◌&&◌, ℕ, List, [], ◌∷◌, Bool, true, false, not, cond, nat_eq, nat_le, nat_lt, length, decimal, Option, Some, Result, Ok, Err, refl, sym, ap, subst, arith, lit≤, append_assoc, length-append}
 use Rattle.std.proofs.lemmas.Bool.Decides.{nat_tests}
 use Rattle.pisa_isa.specs.declared.instr.Instr.{Instr}
 use Rattle.pisa_isa.specs.Fields.{highest_rt, last_rt, takes_pair}
 use Rattle.pisa_isa.specs.Table.{row_of}
+use Rattle.pisa_isa.specs.Targets.{branch_target, jump_target}
 use Rattle.pisa_isa.specs.CodingLaws.{Bounds}
 use Rattle.pisa_asm.specs.declared.fault.TextWhy.{TextWhy}
 use Rattle.pisa_asm.specs.declared.fault.TextWhy.TheVariants as why
@@ -13,10 +13,10 @@ use Rattle.pisa_asm.specs.declared.tokens.Number.{Number}
 use Rattle.pisa_asm.specs.declared.slots.Slot.{Slot}
 use Rattle.pisa_asm.specs.declared.slots.Slot.TheVariants as slot
 use Rattle.pisa_asm.specs.Letters.{closed, parted}
-use Rattle.pisa_asm.specs.Tokens.{is_digit, is_within, limited, limited_in, number_in, number_of, register_in, residue}
-use Rattle.pisa_asm.specs.Operands.{Said, addressed, aimed, based, both, branch_field, branch_target, indexed, jump_field, jump_target, reached, slot_says, summed, then_, where_it, with_imm, with_rd, with_rs, with_rt, with_shamt, with_target, within}
+use Rattle.pisa_asm.specs.Tokens.{limited, limited_in, number_in, register_in, residue}
+use Rattle.pisa_asm.specs.Operands.{Said, addressed, aimed, based, both, branch_field, indexed, jump_field, reached, slot_says, summed, then_, where_it, with_imm, with_rd, with_rs, with_rt, with_shamt, with_target, within}
 use Rattle.pisa_asm.specs.Printed.{register_text, signed_text, slot_text, target_text}
-use Rattle.pisa_asm.proofs.RoundNumbers.{digits_all, hex_token, limited_printed, number_hex, number_negative, number_printed, number_small, plain, register_printed}
+use Rattle.pisa_asm.proofs.RoundNumbers.{digits_all, hex_token, limited_printed, number_hex, number_negative, number_small, plain, register_printed}
 use Rattle.pisa_asm.proofs.RoundTokens.{closed_here, digits_lack, digits_token, is_token, is_token_byte, joined, lacks, parted_here}
 
 -- ---- targets

@@ -1,8 +1,7 @@
 -- The source of one instruction, through all passes.
-use Rattle.std.proofs.Common.{◌≡◌, ◌+◌, ◌-◌, ◌%◌, ◌^◌, ◌<◌, ◌≤◌, ◌∙◌, ◌++◌, ◌&&◌, ℕ, List, [], ◌∷◌, Bool, true, false, not, cond, is_some, map, nat_eq, nat_le, length, codes, Option, Some, None, Result, Ok, Err, refl, sym, ap, arith, lit<, length-append}
+use Rattle.std.proofs.Common.{◌≡◌, ◌+◌, ◌-◌, ◌%◌, ◌^◌, ◌<◌, ◌≤◌, ◌∙◌, ◌++◌, ℕ, List, [], ◌∷◌, Bool, true, false, not, cond, map, nat_eq, nat_le, length, codes, Option, Some, None, Result, Ok, Err, refl, ap, arith, lit<, length-append}
 use Rattle.std.specs.List.{list_all, slice_split}
 use Rattle.std.proofs.lemmas.Bool.Decides.{nat_tests}
-use Rattle.ecoff_load.specs.declared.image.Image.{Image}
 use Rattle.pisa_isa.specs.declared.instr.Op.TheVariants as op
 use Rattle.pisa_isa.specs.declared.instr.Instr.{Instr}
 use Rattle.pisa_isa.specs.Classes.{is_float_op, operands_of}
@@ -18,18 +17,18 @@ use Rattle.pisa_asm.specs.declared.statements.Section.TheVariants as section
 use Rattle.pisa_asm.specs.declared.statements.Command.{Command}
 use Rattle.pisa_asm.specs.declared.statements.Command.TheVariants as command
 use Rattle.pisa_asm.specs.declared.sheet.Sheet.{Sheet}
-use Rattle.pisa_asm.specs.Letters.{is_allowed, is_blank, lines_of, operands_in, parted, trim}
-use Rattle.pisa_asm.specs.Tokens.{limited, limited_in, number_in}
+use Rattle.pisa_asm.specs.Letters.{is_allowed, lines_of, operands_in, parted, trim}
+use Rattle.pisa_asm.specs.Tokens.{limited, limited_in}
 use Rattle.pisa_asm.specs.Operands.{Said, and_then, say, slots_of, then_}
 use Rattle.pisa_asm.specs.Printed.{instruction_text, operand_texts, target_text}
 use Rattle.pisa_asm.specs.Statements.{Stated, Words, bare, command_named, directive_named, known, labelled_line, stated, words_in, words_with}
 use Rattle.pisa_asm.specs.Sheets.{end_of_open, is_known, moved, pieces_of, text_end}
-use Rattle.pisa_asm.specs.Passes.{◌>>=◌, CanBeHeld, Found, after_line, at_line, described, filled, first_pass, image_with, in_place, is_second, laid_out, made_bytes, next, no_sheet, nothing_found, parts_in, read, resolved, second_pass, statement_on, text_in, words_on}
+use Rattle.pisa_asm.specs.Passes.{◌>>=◌, CanBeHeld, Found, after_line, at_line, described, first_pass, image_with, in_place, is_second, laid_out, made_bytes, next, no_sheet, nothing_found, parts_in, read, resolved, second_pass, statement_on, text_in, words_on}
 use Rattle.pisa_asm.specs.Rounds.{image_of_one, source_of_one}
 use Rattle.pisa_asm.proofs.Pieces.{last_line, more_lines}
-use Rattle.pisa_asm.proofs.RoundNames.{name_some, name_token}
+use Rattle.pisa_asm.proofs.RoundNames.{name_some}
 use Rattle.pisa_asm.proofs.RoundNumbers.{hex_token, number_hex, number_small, plain}
-use Rattle.pisa_asm.proofs.RoundTokens.{all_by, is_token, is_token_byte, joined, lacks, parted_here, parted_nowhere, piece_alone, token_lacks_comma, trim_same}
+use Rattle.pisa_asm.proofs.RoundTokens.{all_by, is_token_byte, joined, parted_here, parted_nowhere, piece_alone, token_lacks_comma, trim_same}
 use Rattle.pisa_asm.proofs.RoundLines.{code_same, is_line_byte, line_all, line_allowed, line_back, line_no_colon, line_words, not_all_blank, read_back, said_with, slots_print, start_same, token_line, words_parted}
 
 abbrev opening : ℕ → List ℕ

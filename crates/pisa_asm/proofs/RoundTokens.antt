@@ -1,6 +1,6 @@
 -- Tokens that are put together and taken apart again.
-use Rattle.std.proofs.Common.{◌≡◌, ◌+◌, ◌-◌, ◌<◌, ◌≤◌, ◌∙◌, ◌&&◌, ◌++◌, ℕ, suc, List, [], ◌∷◌, Bool, true, false, not, cond, nat_eq, nat_le, nat_lt, length, take, drop, get_or, map, decimal, Option, Some, None, refl, sym, ap, arith, add-one, length-append}
-use Rattle.std.specs.List.{list_all, slice_split, onto_first, prefix_len, position, position_or_len}
+use Rattle.std.proofs.Common.{◌≡◌, ◌+◌, ◌-◌, ◌<◌, ◌∙◌, ◌&&◌, ◌++◌, ℕ, suc, List, [], ◌∷◌, Bool, true, false, not, cond, nat_eq, nat_le, nat_lt, length, take, drop, get_or, Some, None, refl, ap, arith, add-one, length-append}
+use Rattle.std.specs.List.{list_all, slice_split, onto_first, prefix_len}
 use Rattle.std.proofs.lemmas.Bool.Decides.{nat_tests}
 use Rattle.std.proofs.lemmas.List.Folds.{list_all-append}
 use Rattle.std.proofs.lemmas.List.Splits.{slice_split-cons_no, slice_split-cons_yes}

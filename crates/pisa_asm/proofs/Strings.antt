@@ -1,5 +1,5 @@
 -- Reading a string byte by byte.
-use Rattle.std.proofs.Common.{◌≡◌, ◌++◌, ◌∙◌, ℕ, List, [], ◌∷◌, Result, Ok, Err, refl, ap, append_assoc}
+use Rattle.std.proofs.Common.{◌≡◌, ◌++◌, ℕ, List, [], ◌∷◌, Result, Ok, Err, refl, append_assoc}
 use Rattle.pisa_asm.specs.declared.fault.TextWhy.{TextWhy}
 use Rattle.pisa_asm.specs.Statements.{onto}
 

@@ -1,7 +1,8 @@
 -- Fields lead to their targets.
 use Rattle.std.proofs.Common.{◌≡◌, ◌+◌, ◌-◌, ◌/◌, ◌%◌, ◌^◌, ◌∙◌, ℕ, Bool, true, false, nat_eq, Some, refl, sym, ap}
 use Rattle.std.proofs.lemmas.Bool.{eqb-true}
-use Rattle.pisa_asm.specs.Operands.{branch_field, branch_target, jump_field, jump_target, where_it}
+use Rattle.pisa_isa.specs.Targets.{branch_target, jump_target}
+use Rattle.pisa_asm.specs.Operands.{branch_field, jump_field, where_it}
 
 passes : (b : Bool) (value field : ℕ) → where_it b value ≡ Some field → (b ≡ true) × (value ≡ field)
 passes true value field h = (refl, cc)

@@ -8,9 +8,9 @@ use Rattle.pisa_asm.specs.declared.assembling.Findings.{Findings}
 use Rattle.pisa_asm.specs.declared.sheet.Sheet.{Sheet}
 use Rattle.pisa_asm.specs.Letters.{lines_of}
 use Rattle.pisa_asm.specs.Statements.{Stated}
-use Rattle.pisa_asm.specs.Views.{Fails, Gives}
+use Rattle.pisa_asm.specs.Views.{Fails}
 use Rattle.pisa_asm.specs.Passes.{Found, after_line, at_line, filled, first_pass, second_pass, nothing_found, no_sheet, words_on}
-use Rattle.pisa_asm.specs.Kept.{Comes, Finds, Matches, StepsTo, fault_at, next_read}
+use Rattle.pisa_asm.specs.Kept.{Comes, Finds, Matches, StepsTo, fault_at}
 
 -- the first pass from a line on is the whole first pass
 pub record Going (kept : Findings) (n : ℕ) (rest text : List ℕ) : Type 0 where

@@ -1,5 +1,5 @@
 -- How what the code keeps stands for what the definitions speak of.
-use Rattle.std.specs.Prelude.{◌≡◌, ℕ, List, Option, Some, None, Result, Ok, Err, option_map, is_some}
+use Rattle.std.specs.Prelude.{◌≡◌, ℕ, List, Result, Ok, Err, option_map, is_some}
 use Rattle.pisa_asm.specs.declared.fault.TextWhy.{TextWhy}
 use Rattle.pisa_asm.specs.declared.fault.AsmFault.{AsmFault}
 use Rattle.pisa_asm.specs.declared.fault.AsmFault.TheVariants as faults

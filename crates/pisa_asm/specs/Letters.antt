@@ -1,5 +1,5 @@
 -- The bytes of a source: lines, blanks, strings and comments.
-use Rattle.std.specs.Prelude.{◌+◌, ◌-◌, ◌&&◌, ◌||◌, ℕ, List, [], ◌∷◌, Bool, true, false, length, map, take, drop, slice_index, nat_eq, nat_le, if◌then◌else◌, Option, Some, None}
+use Rattle.std.specs.Prelude.{◌+◌, ◌-◌, ◌&&◌, ◌||◌, ℕ, List, [], ◌∷◌, Bool, false, length, map, take, drop, slice_index, nat_eq, nat_le, if◌then◌else◌, Option, Some, None}
 use Rattle.std.specs.List.{slice_split, list_all, position}
 use Rattle.pisa_asm.specs.declared.letters.Quoting.{Quoting}
 use Rattle.pisa_asm.specs.declared.letters.Quoting.TheVariants.{Outside, Inside, Escaped}

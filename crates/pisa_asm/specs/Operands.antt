@@ -1,6 +1,6 @@
 -- What may stand at each place among the operands of a statement, and what it says there.
-use Rattle.std.specs.Prelude.{◌+◌, ◌-◌, ◌*◌, ◌/◌, ◌%◌, ◌^◌, ◌&&◌, ℕ, List, [], ◌∷◌, Bool, true, false, length, map, nat_eq, nat_le, nat_lt, if◌then◌else◌, Option, Some, None, Result, Ok, Err, option_map}
-use Rattle.pisa_isa.specs.declared.instr.Op.{Op}
+use Rattle.std.specs.Prelude.{◌+◌, ◌-◌, ◌/◌, ◌%◌, ◌^◌, ℕ, List, [], ◌∷◌, Bool, true, false, length, nat_eq, nat_le, if◌then◌else◌, Option, Some, None, Result, Ok, Err}
+use Rattle.pisa_isa.specs.Targets.{branch_target, jump_target}
 use Rattle.pisa_isa.specs.declared.instr.Instr.{Instr}
 use Rattle.pisa_isa.specs.declared.table.Operands.{Operands}
 use Rattle.pisa_isa.specs.declared.table.Operands.TheVariants as form
@@ -11,7 +11,7 @@ use Rattle.pisa_asm.specs.declared.tokens.Number.{Number}
 use Rattle.pisa_asm.specs.declared.slots.Slot.{Slot}
 use Rattle.pisa_asm.specs.declared.slots.Slot.TheVariants as slot
 use Rattle.pisa_asm.specs.Letters.{parted, closed}
-use Rattle.pisa_asm.specs.Tokens.{is_label, number_in, limited, limited_in, is_within, residue, register_in}
+use Rattle.pisa_asm.specs.Tokens.{is_label, number_in, limited_in, is_within, residue, register_in}
 
 -- the places among an instruction's operands, in the order of the text
 abbrev pub slots_of : Operands → List Slot
@@ -33,16 +33,6 @@ slots_of form.RdRtShift = slot.Rd ∷ slot.Rt ∷ slot.Shift ∷ []
 slots_of form.RtRsSigned = slot.Rt ∷ slot.Rs ∷ slot.Signed ∷ []
 slots_of form.RtRsUnsigned = slot.Rt ∷ slot.Rs ∷ slot.Unsigned ∷ []
 slots_of form.RtUnsigned = slot.Rt ∷ slot.Unsigned ∷ []
-
--- the address to which a branch at pc goes, by its field; sums are modulo 2^32
-abbrev pub branch_target : ℕ → ℕ → ℕ
-branch_target pc imm =
-    if nat_lt imm (2 ^ 15) then (pc + 8 + 4 * imm) % 2 ^ 32
-    else (pc + 8 + 4 * imm + (2 ^ 32 - 4 * 2 ^ 16)) % 2 ^ 32
-
--- the address to which a jump at pc goes, by its field
-abbrev pub jump_target : ℕ → ℕ → ℕ
-jump_target pc field = pc / 2 ^ 28 * 2 ^ 28 + 4 * field
 
 -- a value, where it passes a test
 abbrev pub where_it : Bool → ℕ → Option ℕ

@@ -1,5 +1,5 @@
 -- The passes over a source, and the image that it means.
-use Rattle.std.specs.Prelude.{◌≡◌, ◌+◌, ◌-◌, ◌^◌, ◌≤◌, ◌&&◌, ◌||◌, ℕ, Bool, true, false, List, [], ◌∷◌, is_some, min, nat_eq, nat_le, if◌then◌else◌, not, Option, Some, None, Result, Ok, Err, unwrap_or}
+use Rattle.std.specs.Prelude.{◌≡◌, ◌+◌, ◌-◌, ◌^◌, ◌≤◌, ◌&&◌, ◌||◌, ℕ, Bool, true, false, List, [], ◌∷◌, is_some, min, nat_le, if◌then◌else◌, Option, Some, None, Result, Ok, Err, unwrap_or}
 use Rattle.std.specs.List.{list_all}
 use Rattle.ecoff_load.specs.declared.image.Kind.{Kind}
 use Rattle.ecoff_load.specs.declared.image.Kind.TheVariants as kind

@@ -1,12 +1,13 @@
 -- The assembly text of an instruction.
-use Rattle.std.specs.Prelude.{◌+◌, ◌-◌, ◌^◌, ◌++◌, ℕ, List, [], ◌∷◌, decimal, nat_lt, if◌then◌else◌}
+use Rattle.std.specs.Prelude.{◌-◌, ◌^◌, ◌++◌, ℕ, List, [], ◌∷◌, decimal, nat_lt, if◌then◌else◌}
 use Rattle.ss_base.specs.Text.{hex8}
 use Rattle.pisa_isa.specs.declared.instr.Instr.{Instr}
 use Rattle.pisa_isa.specs.Classes.{operands_of}
 use Rattle.pisa_isa.specs.Texts.{name_of}
 use Rattle.pisa_asm.specs.declared.slots.Slot.{Slot}
 use Rattle.pisa_asm.specs.declared.slots.Slot.TheVariants as slot
-use Rattle.pisa_asm.specs.Operands.{slots_of, branch_target, jump_target}
+use Rattle.pisa_isa.specs.Targets.{branch_target, jump_target}
+use Rattle.pisa_asm.specs.Operands.{slots_of}
 
 abbrev pub register_text : ℕ → List ℕ
 register_text r = 36 ∷ decimal r

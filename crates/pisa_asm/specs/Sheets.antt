@@ -1,8 +1,7 @@
 -- Sections as statements fill them, and labels.
-use Rattle.std.specs.Prelude.{◌+◌, ◌-◌, ◌%◌, ◌^◌, ◌&&◌, ◌||◌, ◌++◌, ℕ, Bool, true, false, List, [], ◌∷◌, length, min, not, is_some, bytes_eq, nat_eq, nat_le, nat_lt, if◌then◌else◌, Option, Some, None, replicate, option_to_list}
+use Rattle.std.specs.Prelude.{◌+◌, ◌-◌, ◌%◌, ◌^◌, ◌||◌, ◌++◌, ℕ, Bool, true, false, List, [], ◌∷◌, length, min, not, is_some, bytes_eq, nat_eq, if◌then◌else◌, Option, Some, None, replicate, option_to_list}
 use Rattle.std.specs.Int.{w16, w32, to_le_bytes}
-use Rattle.std.specs.List.{list_all, list_any, sum_by}
-use Rattle.pisa_isa.specs.declared.instr.Op.{Op}
+use Rattle.std.specs.List.{list_any}
 use Rattle.pisa_isa.specs.Coding.{number_of, second_word}
 use Rattle.pisa_asm.specs.declared.statements.Section.{Section}
 use Rattle.pisa_asm.specs.declared.statements.Section.TheVariants as section

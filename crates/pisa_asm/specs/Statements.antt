@@ -1,5 +1,5 @@
 -- One line of a source: its label and its statement.
-use Rattle.std.specs.Prelude.{◌+◌, ◌&&◌, ℕ, List, [], ◌∷◌, Bool, true, false, length, filter, find, take, drop, not, position, codes, slice_index, bytes_eq, nat_eq, if◌then◌else◌, Option, Some, None, Result, Ok, Err}
+use Rattle.std.specs.Prelude.{ℕ, List, [], ◌∷◌, Bool, true, false, length, filter, find, take, drop, not, position, codes, slice_index, bytes_eq, nat_eq, if◌then◌else◌, Option, Some, None, Result, Ok, Err}
 use Rattle.std.specs.List.{list_all}
 use Rattle.pisa_isa.specs.declared.instr.Op.{Op}
 use Rattle.pisa_isa.specs.declared.instr.Op.TheVariants as op
@@ -11,11 +11,10 @@ use Rattle.pisa_asm.specs.declared.fault.TextWhy.{TextWhy}
 use Rattle.pisa_asm.specs.declared.fault.TextWhy.TheVariants as why
 use Rattle.pisa_asm.specs.declared.slots.Slot.{Slot}
 use Rattle.pisa_asm.specs.declared.slots.Slot.TheVariants as slot
-use Rattle.pisa_asm.specs.declared.statements.Section.{Section}
 use Rattle.pisa_asm.specs.declared.statements.Section.TheVariants as section
 use Rattle.pisa_asm.specs.declared.statements.Command.{Command}
 use Rattle.pisa_asm.specs.declared.statements.Command.TheVariants as command
-use Rattle.pisa_asm.specs.Letters.{is_blank, trim, trim_start, operands_in, parted}
+use Rattle.pisa_asm.specs.Letters.{is_blank, trim_start, operands_in, parted}
 use Rattle.pisa_asm.specs.Tokens.{is_label}
 use Rattle.pisa_asm.specs.Operands.{Said, say, slots_of, then_}
 

@@ -4,8 +4,7 @@
 //! reason in the order of reasons; what a source means is stated line by line in `specs/`, from
 //! bytes (`Letters`, `Tokens`) over operands and statements (`Operands`, `Statements`) to sections,
 //! labels and the two passes (`Sheets`, `Passes`). `disassemble` prints an instruction as the
-//! assembler reads it, which `one_instruction_comes_back`
-//! states.
+//! assembler reads it, which `one_instruction_comes_back` states.
 #![tactic(auto)]
 
 mod assembling;

@@ -2,7 +2,7 @@
 ghost use Rattle.std.specs.Prelude.{◌≡◌, ◌<◌, ◌≤◌, ◌^◌, IfSome, ℕ, List, [], ◌∷◌, Result};
 ghost use Rattle.std.specs.Option.{option_map};
 ghost use Rattle.pisa_asm.specs.Letters.{closed, operands_in, parted};
-ghost use Rattle.pisa_asm.specs.Operands.{Said, addressed, based, beside, branch_field, branch_target, first_of, indexed, jump_field, jump_target, labelled, operand_says, say, slot_says, summed, then_, valued, with_imm, with_number};
+ghost use Rattle.pisa_asm.specs.Operands.{Said, addressed, based, beside, branch_field, first_of, indexed, jump_field, labelled, operand_says, say, slot_says, summed, then_, valued, with_imm, with_number};
 ghost use Rattle.pisa_asm.specs.Tokens.{number_in as number_in_spec, limited_in as limited_in_spec, residue};
 ghost use Rattle.pisa_isa.specs.Fields.{takes_pair};
 ghost use Rattle.pisa_isa.specs.Table.{row_of};
@@ -14,7 +14,7 @@ use crate::fault::TextWhy;
 use crate::letters::{are_blank, closed, parted, trim};
 use crate::slots::Slot;
 use crate::tokens::{is_label, limited_in, number_in, register_in};
-use pisa_isa::{Instr, Op};
+use pisa_isa::{Instr, Op, branch_target, jump_target};
 
 /// What operands say: the fields of an instruction, or a number, and a label that stands for a
 /// target or a value.
@@ -41,18 +41,6 @@ impl TextWhy {
     }
 }
 
-/// The address to which a branch at `pc` goes, by its field.
-pub(crate) fn branch_target(pc: u32, imm: u16) -> u32
-    ensures { result ≡ branch_target pc imm }
-{
-    let ahead = u64::from(pc) + 8 + 4 * u64::from(imm);
-    if imm < 0x8000 {
-        (ahead % 0x1_0000_0000) as u32
-    } else {
-        ((ahead + 0xfffc_0000) % 0x1_0000_0000) as u32
-    }
-}
-
 /// The field with which a branch at `pc` goes to a target, `None` exactly where no field does.
 pub(crate) fn branch_field(pc: u32, target: u32) -> Option<u16>
     ensures { result ≡ branch_field pc target }
@@ -64,14 +52,6 @@ pub(crate) fn branch_field(pc: u32, target: u32) -> Option<u16>
     } else {
         None
     }
-}
-
-/// The address to which a jump at `pc` goes, by its field.
-pub(crate) fn jump_target(pc: u32, field: u32) -> u32
-    requires { field < 2 ^ 26 }
-    ensures { result ≡ jump_target pc field }
-{
-    pc / 0x1000_0000 * 0x1000_0000 + 4 * field
 }
 
 /// The field with which a jump at `pc` goes to a target, `None` exactly where no field does.

@@ -6,11 +6,10 @@ ghost use Rattle.pisa_isa.specs.Coding.{IsWellFormed};
 ghost use Rattle.pisa_asm.specs.declared.slots.Slot.TheVariants as slot;
 ghost use Rattle.pisa_asm.specs.Printed.{instruction_text, operand_texts, register_text, signed_text, slot_text, target_text};
 
-use crate::operands::{branch_target, jump_target};
 use crate::slots::{Slot, slots_of};
 use arrayvec::ArrayString;
 use itoa::Buffer;
-use pisa_isa::{Instr, name, operands};
+use pisa_isa::{Instr, branch_target, jump_target, name, operands};
 
 /// Adds the decimal digits of a number of 16 bits.
 fn push_decimal(text: &mut ArrayString<64>, n: u16)

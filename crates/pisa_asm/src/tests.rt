@@ -1,10 +1,9 @@
 ghost use Rattle.std.specs.Prelude.{◌<◌, ◌^◌, length};
 
 use crate::{AsmFault, TextWhy, assemble, disassemble};
-use ecoff_load::write;
+use ecoff_load::{Image, write};
 use pisa_isa::decode;
 use std::alloc::Global;
-use std::test::Fail;
 
 /// The object of three instructions at 0x00400000.
 const THREE: [u8; 140] = [
@@ -15,14 +14,62 @@ const THREE: [u8; 140] = [
     1, 0, 2, 0, 67, 0, 0, 0, 7, 0, 4, 0, 160, 0, 0, 0, 0, 0, 0, 0,
 ];
 
+/// Whether a source gives an object with these bytes.
+fn gives_object(alloc: Global, source: &[u8], expected: &[u8]) -> bool
+    requires { length source.now < 2 ^ 32 }
+{
+    let Ok(image) = assemble(alloc, source) else {
+        return false;
+    };
+    if !image.fits() {
+        return false;
+    }
+    match write(alloc, &image) {
+        Ok(object) => object.as_slice() == expected,
+        Err(_) => false,
+    }
+}
+
 #[test]
-fn the_first_object_comes_from_its_four_lines(rt: HostRuntime) -> Result<(), Fail> {
+fn the_first_object_comes_from_its_four_lines(rt: HostRuntime) {
     let source = b".text 0x00400000\nADDIU $2,$0,1\nADDIU $4,$0,7\nSYSCALL";
-    let image = assemble(rt.alloc(), source)?;
-    assert!(rt; image.fits());
-    let object = write(rt.alloc(), &image)?;
-    assert_eq!(rt; object.as_slice(), THREE.as_slice());
-    Ok(())
+    assert!(rt; gives_object(rt.alloc(), source, &THREE));
+}
+
+/// What is expected of an image: its entry, the address and the length of its text, words of its
+/// text with their addresses, and its parts with address, size and bytes.
+struct Expected {
+    entry: u32,
+    start: u32,
+    length: usize,
+    words: &'static [(u32, (u32, u32))],
+    parts: &'static [(u32, u32, &'static [u8])],
+}
+
+/// Whether an image has these words and these parts.
+fn has(image: &Image, expected: &Expected) -> bool {
+    let parts = image.parts.as_slice();
+    image.entry == expected.entry
+        && image.text.start == expected.start
+        && image.text.bytes.as_slice().len() == expected.length
+        && expected
+            .words
+            .iter()
+            .all(|(pc, words)| image.text.at(*pc) == Some(*words))
+        && parts.len() == expected.parts.len()
+        && parts.iter().zip(expected.parts).all(|(part, (addr, size, bytes))| {
+            part.addr == *addr && part.size == *size && part.bytes.as_slice() == *bytes
+        })
+}
+
+/// Whether a source describes what is expected.
+fn describes(alloc: Global, source: &[u8], expected: &Expected) -> bool
+    requires { length source.now < 2 ^ 32 }
+{
+    match assemble(alloc, source) {
+        Ok(image) => has(&image, expected),
+        Err(_) => false,
+    }
 }
 
 /// The source with a section of each kind.
@@ -54,13 +101,11 @@ SYSCALL
 .space 64
 ";
 
-#[test]
-fn a_source_with_all_sections_gives_its_image(rt: HostRuntime) -> Result<(), Fail> {
-    let image = assemble(rt.alloc(), ALL_SECTIONS.as_bytes())?;
-    assert_eq!(rt; image.entry, 0x0040_0140);
-    assert_eq!(rt; image.text.start, 0x0040_0140);
-    assert_eq!(rt; image.text.bytes.as_slice().len(), 120);
-    for (pc, words) in [
+static SECTIONS: Expected = Expected {
+    entry: 0x0040_0140,
+    start: 0x0040_0140,
+    length: 120,
+    words: &[
         (0x0040_0140, (0x43, 0x0002_0011)),
         (0x0040_0148, (0xa2, 0x0004_1001)),
         (0x0040_0150, (0xa0, 0)),
@@ -68,27 +113,23 @@ fn a_source_with_all_sections_gives_its_image(rt: HostRuntime) -> Result<(), Fai
         (0x0040_0168, (0x34, 0x0802_0000)),
         (0x0040_0180, (0x28, 0x0906_0000)),
         (0x0040_01b0, (0xa0, 0)),
-    ] {
-        assert_eq!(rt; image.text.at(pc), Some(words), "at {pc:#x}");
-    }
-    let expected: [(u32, u32, &[u8]); 5] = [
+    ],
+    parts: &[
         (0x1000_0000, 6, b"hello\n"),
         (0x1000_4000, 4, &[1, 0, 0, 0]),
         (0x1000_8000, 4, &[6, 0, 0, 0]),
         (0x1000_8800, 8, &[]),
         (0x1000_9000, 64, &[]),
-    ];
-    assert_eq!(rt; image.parts.as_slice().len(), expected.len());
-    for (part, (addr, size, bytes)) in image.parts.as_slice().iter().zip(expected) {
-        assert_eq!(rt; part.addr, addr);
-        assert_eq!(rt; part.size, size);
-        assert_eq!(rt; part.bytes.as_slice(), bytes);
-    }
-    Ok(())
+    ],
+};
+
+#[test]
+fn a_source_with_all_sections_gives_its_image(rt: HostRuntime) {
+    assert!(rt; describes(rt.alloc(), ALL_SECTIONS.as_bytes(), &SECTIONS));
 }
 
 /// A statement at 0x00400000 with its two words, for each form of operands.
-const FORMS: [(&str, u32, u32); 21] = [
+static FORMS: [(&str, u32, u32); 21] = [
     ("NOP", 0x00, 0),
     ("J 0x00400010", 0x01, 0x0010_0004),
     ("JR $31", 0x03, 0x1f00_0000),
@@ -112,33 +153,49 @@ const FORMS: [(&str, u32, u32); 21] = [
     ("SYSCALL", 0xa0, 0),
 ];
 
-#[test]
-fn each_form_is_assembled_and_read_back(rt: HostRuntime) -> Result<(), Fail> {
-    for (line, first, second) in FORMS {
-        let source = format!(in rt.alloc(); ".text 0x00400000\n{line}\n")?;
-        let bytes = source.as_bytes();
-        assert!(rt; bytes.len() < 1000);
-        let image = assemble(rt.alloc(), bytes)?;
-        let words = image.text.at(0x0040_0000);
-        assert_eq!(rt; words, Some((first, second)), "{line}");
-        match decode(first, second) {
-            Ok(i) => {
-                let text = disassemble(&i, 0x0040_0000);
-                assert_eq!(rt; text.as_str().as_bytes(), line.as_bytes(), "{line}");
-            }
-            Err(_) => assert!(rt; false, "{line}"),
-        }
+/// Whether two words are printed as this line at an address.
+fn prints(first: u32, second: u32, pc: u32, line: &str) -> bool {
+    match decode(first, second) {
+        Ok(i) => disassemble(&i, pc).as_str() == line,
+        Err(_) => false,
     }
-    Ok(())
+}
+
+/// The two words that a source has at 0x00400000.
+fn first_words(alloc: Global, source: &[u8]) -> Option<(u32, u32)>
+    requires { length source.now < 2 ^ 32 }
+{
+    match assemble(alloc, source) {
+        Ok(image) => image.text.at(0x0040_0000),
+        Err(_) => None,
+    }
+}
+
+/// Whether a statement has these two words, and they are printed as it.
+fn comes_back(alloc: Global, line: &str, first: u32, second: u32) -> bool {
+    let Ok(source) = format!(in alloc; ".text 0x00400000\n{line}\n") else {
+        return false;
+    };
+    let bytes = source.as_bytes();
+    bytes.len() < 1000
+        && first_words(alloc, bytes) == Some((first, second))
+        && prints(first, second, 0x0040_0000, line)
 }
 
 #[test]
-fn an_operation_of_floating_point_is_printed_by_its_name(rt: HostRuntime) -> Result<(), Fail> {
-    match decode(0x70, 0) {
-        Ok(i) => assert_eq!(rt; disassemble(&i, 0).as_str().as_bytes(), b"ADD_S".as_slice()),
-        Err(_) => assert!(rt; false),
+fn each_form_is_assembled_and_read_back(rt: HostRuntime) {
+    let mut wrong = None;
+    for (line, first, second) in &FORMS {
+        if !comes_back(rt.alloc(), line, *first, *second) {
+            wrong = Some(*line);
+        }
     }
-    Ok(())
+    assert_eq!(rt; wrong, None);
+}
+
+#[test]
+fn an_operation_of_floating_point_is_printed_by_its_name(rt: HostRuntime) {
+    assert!(rt; prints(0x70, 0, 0, "ADD_S"));
 }
 
 /// A program with labels, comments, blanks, escapes and numbers of all sizes.
@@ -166,33 +223,37 @@ behind: .space 3
 .half_label:
 ";
 
-#[test]
-fn labels_stand_for_the_addresses_of_their_lines(rt: HostRuntime) -> Result<(), Fail> {
-    let source = LABELS.as_bytes();
-    assert_eq!(rt; refusal(rt.alloc(), source), Some((22, TextWhy::Mnemonic)));
-    let image = assemble(
-        rt.alloc(),
-        source.split_at(source.len().saturating_sub(13)).0,
-    )?;
-    assert_eq!(rt; image.entry, 0x0040_0008);
-    for (pc, words) in [
+static LABELLED: Expected = Expected {
+    entry: 0x0040_0008,
+    start: 0x0040_0000,
+    length: 40,
+    words: &[
         (0x0040_0000, (0x00, 0)),
         (0x0040_0008, (0x43, 0x0008_0003)),
         (0x0040_0010, (0x43, 0x0808_ffff)),
         (0x0040_0018, (0x06, 0x0800_fffc)),
         (0x0040_0020, (0x01, 0x0010_0002)),
-    ] {
-        assert_eq!(rt; image.text.at(pc), Some(words), "at {pc:#x}");
-    }
-    let parts = image.parts.as_slice();
-    assert_eq!(rt; parts.len(), 2);
-    let bytes: [u8; 33] = [
-        97, 35, 10, 34, 92, 0, 9, 128, 255, 0, 128, 255, 255, 0, 0, 0, 128, 255, 255, 255, 255, 16,
-        0, 64, 0, 0, 0, 0, 16, 0, 0, 0, 32,
-    ];
-    assert_eq!(rt; parts[0].bytes.as_slice(), bytes.as_slice());
-    assert_eq!(rt; parts[1].size, 3);
-    Ok(())
+    ],
+    parts: &[
+        (
+            0x1000_0000,
+            33,
+            &[
+                97, 35, 10, 34, 92, 0, 9, 128, 255, 0, 128, 255, 255, 0, 0, 0, 128, 255, 255, 255,
+                255, 16, 0, 64, 0, 0, 0, 0, 16, 0, 0, 0, 32,
+            ],
+        ),
+        (0x2000_0000, 3, &[]),
+    ],
+};
+
+#[test]
+fn labels_stand_for_the_addresses_of_their_lines(rt: HostRuntime) {
+    let source = LABELS.as_bytes();
+    let without_its_last_line = source.split_at(source.len().saturating_sub(13)).0;
+    let right = refusal(rt.alloc(), source) == Some((22, TextWhy::Mnemonic))
+        && describes(rt.alloc(), without_its_last_line, &LABELLED);
+    assert!(rt; right);
 }
 
 /// The example of docs/assembler.md.
@@ -217,18 +278,20 @@ hello: .ascii \"hello\\n\"
 table: .space 64
 ";
 
+static GREETING: Expected = Expected {
+    entry: 0x0040_0000,
+    start: 0x0040_0000,
+    length: 88,
+    words: &[(0x0040_0038, (0x06, 0x0800_fffc))],
+    parts: &[
+        (0x1000_0000, 10, &[104, 101, 108, 108, 111, 10, 0, 0, 0, 16]),
+        (0x1000_1000, 64, &[]),
+    ],
+};
+
 #[test]
-fn the_example_of_the_page_is_assembled(rt: HostRuntime) -> Result<(), Fail> {
-    let image = assemble(rt.alloc(), EXAMPLE.as_bytes())?;
-    assert_eq!(rt; image.entry, 0x0040_0000);
-    assert_eq!(rt; image.text.bytes.as_slice().len(), 88);
-    assert_eq!(rt; image.text.at(0x0040_0038), Some((0x06, 0x0800_fffc)));
-    let parts = image.parts.as_slice();
-    assert_eq!(rt; parts.len(), 2);
-    let bytes = [104, 101, 108, 108, 111, 10, 0, 0, 0, 16];
-    assert_eq!(rt; parts[0].bytes.as_slice(), bytes.as_slice());
-    assert_eq!(rt; parts[1].size, 64);
-    Ok(())
+fn the_example_of_the_page_is_assembled(rt: HostRuntime) {
+    assert!(rt; describes(rt.alloc(), EXAMPLE.as_bytes(), &GREETING));
 }
 
 /// The line and the reason for which a source is refused.
@@ -242,7 +305,7 @@ fn refusal(alloc: Global, source: &[u8]) -> Option<(u32, TextWhy)>
 }
 
 /// Sources that are wrong, with the line and the reason that are told.
-const WRONG: [(&str, u32, TextWhy); 66] = [
+static WRONG: [(&str, u32, TextWhy); 66] = [
     ("\u{1}", 1, TextWhy::Char),
     ("# caf\u{7f}", 1, TextWhy::Char),
     (".text 0x00400000\nFOO \u{2}", 2, TextWhy::Char),
@@ -315,13 +378,19 @@ const WRONG: [(&str, u32, TextWhy); 66] = [
     (".text 4\nNOP", 0, TextWhy::Layout),
 ];
 
+/// Whether a source is refused at this line for this reason.
+fn is_refused(alloc: Global, source: &str, line: u32, why: TextWhy) -> bool {
+    let bytes = source.as_bytes();
+    bytes.len() < 1000 && refusal(alloc, bytes) == Some((line, why))
+}
+
 #[test]
-fn each_reason_has_its_line(rt: HostRuntime) -> Result<(), Fail> {
-    for (source, line, why) in WRONG {
-        let bytes = source.as_bytes();
-        assert!(rt; bytes.len() < 1000);
-        let told = refusal(rt.alloc(), bytes);
-        assert_eq!(rt; told, Some((line, why)), "{source}");
+fn each_reason_has_its_line(rt: HostRuntime) {
+    let mut wrong = None;
+    for (source, line, why) in &WRONG {
+        if !is_refused(rt.alloc(), source, *line, *why) {
+            wrong = Some(*source);
+        }
     }
-    Ok(())
+    assert_eq!(rt; wrong, None);
 }

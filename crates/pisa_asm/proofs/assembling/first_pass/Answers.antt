@@ -3,7 +3,7 @@ use Rattle.pisa_asm.specs.declared.fault.AsmFault.{AsmFault}
 use Rattle.pisa_asm.specs.Letters.{lines_of}
 use Rattle.pisa_asm.specs.Passes.{first_pass, nothing_found}
 use Rattle.pisa_asm.specs.Kept.{Finds}
-use Rattle.pisa_asm.proofs.Turns.{Going, goes_on, ends_wrong, is_done}
+use Rattle.pisa_asm.proofs.Turns.{goes_on, ends_wrong, is_done}
 use Rattle.pisa_asm.proofs.assembling.first_pass.Goals as goal
 
 pub lines-init : goal.lines-init

@@ -1,4 +1,4 @@
-use Rattle.std.proofs.Common.{◌≡◌, ◌+◌, ◌*◌, ◌≤◌, ◌<◌, ◌^◌, ◌++◌, ◌∷◌, [], List, ℕ, drop}
+use Rattle.std.proofs.Common.{◌≡◌, ◌+◌, ◌*◌, ◌≤◌, ◌<◌, ◌++◌, drop}
 use Rattle.arrayvec.specs.ArrayString.{array_string_len}
 use Rattle.pisa_isa.specs.Texts.{name_of}
 use Rattle.pisa_asm.specs.Printed.{operand_texts}
