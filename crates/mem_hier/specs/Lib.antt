@@ -1,0 +1,4 @@
+pub mod Limits
+pub mod Replay
+pub mod Stands
+pub mod Laws

@@ -1,0 +1,6 @@
+//! A memory hierarchy.
+#![tactic(auto)]
+
+mod config;
+
+pub use config::{HierConfig, Level, Which};
