@@ -1,1 +1,7 @@
 pub mod Worked
+pub mod Shapes
+pub mod Fills
+pub mod Ways
+pub mod Bounds
+pub mod Stood
+pub mod Steps

@@ -39,41 +39,48 @@ has_smaller_blocks (Some second) (Some first) = nat_lt second.block first.block
 has_smaller_blocks second first = false
 
 -- levels that can't stand together
-abbrev pub clashes : HierConfig → Bool
-clashes c =
+abbrev pub has_clash : HierConfig → Bool
+has_clash c =
     (is_off c.il1 && not (is_off c.il2)) || ((is_shared c.il1 && (is_off c.dl1 || not (is_off c.il2))) || ((is_off c.dl1 && not (is_off c.dl2)) || ((is_shared c.il2 && is_off c.dl2)
     || (has_smaller_blocks (behind_il1 c) (own c.il1) || has_smaller_blocks (own c.dl2) (own c.dl1)))))
 
--- each shape is one that a cache may have
-abbrev pub IsShape : Option CacheConfig → Type 0
-IsShape None = Unit {0}
-IsShape (Some shape) = IsWithinLimits shape
+-- a shape that is there is one that a cache may have
+pub record IsShape (shape : Option CacheConfig) : Type 0 where
+  pub fits : (s : CacheConfig) → shape ≡ Some s → IsWithinLimits s
 
 pub record IsBetween (low high n : ℕ) : Type 0 where
   pub least : low ≤ n
   pub most : n ≤ high
 
--- every number is within its limits, and the data side shares no level of another
-pub record IsInRange (c : HierConfig) : Type 0 where
+-- what a lookup of each level takes
+pub record HasLookups (c : HierConfig) : Type 0 where
+  pub il1 : IsBetween 1 100 c.il1lat
+  pub il2 : IsBetween 1 100 c.il2lat
+  pub dl1 : IsBetween 1 100 c.dl1lat
+  pub dl2 : IsBetween 1 100 c.dl2lat
+
+-- what memory and a miss of a TLB take
+pub record HasMemory (c : HierConfig) : Type 0 where
+  pub first : IsBetween 1 1000 c.mem_first
+  pub inter : IsBetween 1 100 c.mem_inter
+  pub width : IsBetween 1 64 c.mem_width
+  pub power : IsTrue (is_power_of_two c.mem_width)
+  pub tlb : IsBetween 1 1000 c.tlb_lat
+
+pub record HasShapes (c : HierConfig) : Type 0 where
   pub il1 : IsShape (own c.il1)
-  pub il2 : IsShape (own c.il2)
   pub dl1 : IsShape (own c.dl1)
+  pub il2 : IsShape (own c.il2)
   pub dl2 : IsShape (own c.dl2)
   pub itlb : IsShape c.itlb
   pub dtlb : IsShape c.dtlb
-  pub il1lat : IsBetween 1 100 c.il1lat
-  pub il2lat : IsBetween 1 100 c.il2lat
-  pub dl1lat : IsBetween 1 100 c.dl1lat
-  pub dl2lat : IsBetween 1 100 c.dl2lat
-  pub mem_first : IsBetween 1 1000 c.mem_first
-  pub mem_inter : IsBetween 1 100 c.mem_inter
-  pub mem_width : IsBetween 1 64 c.mem_width
-  pub width_power : IsTrue (is_power_of_two c.mem_width)
-  pub tlb_lat : IsBetween 1 1000 c.tlb_lat
+
+-- A configuration that a hierarchy may have: every number is within its limits, the data side has no shared level, and
+-- its levels can stand together.
+pub record IsAllowed (c : HierConfig) : Type 0 where
+  pub shapes : HasShapes c
+  pub lookups : HasLookups c
+  pub memory : HasMemory c
   pub own_dl1 : is_shared c.dl1 ≡ false
   pub own_dl2 : is_shared c.dl2 ≡ false
-
--- a configuration that a hierarchy may have
-pub record IsAllowed (c : HierConfig) : Type 0 where
-  pub in_range : IsInRange c
-  pub no_clash : clashes c ≡ false
+  pub together : has_clash c ≡ false

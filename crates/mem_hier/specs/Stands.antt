@@ -87,3 +87,9 @@ pub record Referred (old new : Held) (cycle : ℕ) : Type 0 where
   pub config : config_of new ≡ config_of old
   pub references : references_of new ≡ references_of old + 1
   pub last_cycle : last_cycle_of new ≡ cycle
+
+-- after a settling
+pub record Settled (old new : Held) : Type 0 where
+  pub config : config_of new ≡ config_of old
+  pub references : references_of new ≡ references_of old
+  pub last_cycle : last_cycle_of new ≡ 0
