@@ -38,16 +38,16 @@ pub record WayTimed (t : Timing) (o : Option CacheConfig) (t' : Timing) (o' : Op
   pub second : t'.lookup ≤ t'.greatest
   pub both : (s s' : CacheConfig) → o ≡ Some s → o' ≡ Some s' → t.lookup + t'.greatest ≤ t.greatest
 
-last_timed : (c : HierConfig) (lookup : ℕ) (o : Option CacheConfig) → lookup ≤ (last_timing c lookup o).greatest
+pub last_timed : (c : HierConfig) (lookup : ℕ) (o : Option CacheConfig) → lookup ≤ (last_timing c lookup o).greatest
 last_timed c lookup None = omega arith
 last_timed c lookup (Some s) = omega arith
 
-first_timed : (c : HierConfig) (lookup : ℕ) (o : Option CacheConfig) (lookup' : ℕ) (o' : Option CacheConfig) → WayTimed (first_timing c lookup o lookup' o') o (last_timing c lookup' o') o'
+pub first_timed : (c : HierConfig) (lookup : ℕ) (o : Option CacheConfig) (lookup' : ℕ) (o' : Option CacheConfig) → WayTimed (first_timing c lookup o lookup' o') o (last_timing c lookup' o') o'
 first_timed c lookup None lookup' o' = record { first = omega arith; second = last_timed c lookup' o'; both = λ s s' e e'. cc }
 first_timed c lookup (Some s) lookup' None = record { first = last_timed c lookup (Some s); second = omega arith; both = λ r r' e e'. cc }
 first_timed c lookup (Some s) lookup' (Some s') = record { first = omega arith; second = last_timed c lookup' (Some s'); both = λ r r' e e'. omega arith }
 
-tlb_timed : (c : HierConfig) (o : Option CacheConfig) → 1 ≤ c.tlb_lat → 1 ≤ (tlb_timing c o).greatest
+pub tlb_timed : (c : HierConfig) (o : Option CacheConfig) → 1 ≤ c.tlb_lat → 1 ≤ (tlb_timing c o).greatest
 tlb_timed c None le = omega arith
 tlb_timed c (Some s) le = le
 
@@ -186,11 +186,11 @@ fetch_fills c s pc cycle f =
     fetch_cases (IsFilling (fetch_timing c) c cycle) c s pc cycle
     (λ e. of_timing _ _ c cycle _ (timing_data c e) (data_fills c s pc false cycle f))
     (λ e e' p is.
-        let w = il1_fills c s s.dl2 (own c.dl2) (dl2_timing c) pc cycle p (behind_shared c e') f f.dl2 is in
-        of_timing _ _ c cycle _ (timing_own c e) (record { within = w.0; fills = record { il1 = w.1; dl1 = f.dl1; il2 = f.il2; dl2 = w.2; itlb = f.itlb; dtlb = f.dtlb } }))
+    let w = il1_fills c s s.dl2 (own c.dl2) (dl2_timing c) pc cycle p (behind_shared c e') f f.dl2 is in
+    of_timing _ _ c cycle _ (timing_own c e) (record { within = w.0; fills = record { il1 = w.1; dl1 = f.dl1; il2 = f.il2; dl2 = w.2; itlb = f.itlb; dtlb = f.dtlb } }))
     (λ e e' p is.
-        let w = il1_fills c s s.il2 (own c.il2) (last_timing c c.il2lat (own c.il2)) pc cycle p (behind_own c e') f f.il2 is in
-        of_timing _ _ c cycle _ (timing_own c e) (record { within = w.0; fills = record { il1 = w.1; dl1 = f.dl1; il2 = w.2; dl2 = f.dl2; itlb = f.itlb; dtlb = f.dtlb } }))
+    let w = il1_fills c s s.il2 (own c.il2) (last_timing c c.il2lat (own c.il2)) pc cycle p (behind_own c e') f f.il2 is in
+    of_timing _ _ c cycle _ (timing_own c e) (record { within = w.0; fills = record { il1 = w.1; dl1 = f.dl1; il2 = w.2; dl2 = f.dl2; itlb = f.itlb; dtlb = f.dtlb } }))
 
 -- a whole reference: at least what its first level looks up, at most the greater of its first level's and its TLB's greatest
 pub record AnswerFills (t page : Timing) (c : HierConfig) (cycle : ℕ) (p : Answer) : Type 0 where
@@ -308,7 +308,7 @@ behind_lookup_le c allowed = by_case (is_shared c.il2)
 first_is_timed : (t t' : Timing) (o o' : Option CacheConfig) → WayTimed t o t' o' → t.lookup ≤ 100 → t'.greatest ≤ 10000100 → IsTimed t t'
 first_is_timed t t' o o' timed le le' = record { first = timed.first; second = timed.second; sum = omega arith }
 
-first_lookup : (c : HierConfig) (lookup : ℕ) (o : Option CacheConfig) (lookup' : ℕ) (o' : Option CacheConfig) → (first_timing c lookup o lookup' o').lookup ≡ lookup
+pub first_lookup : (c : HierConfig) (lookup : ℕ) (o : Option CacheConfig) (lookup' : ℕ) (o' : Option CacheConfig) → (first_timing c lookup o lookup' o').lookup ≡ lookup
 first_lookup c lookup None lookup' o' = refl
 first_lookup c lookup (Some s) lookup' None = refl
 first_lookup c lookup (Some s) lookup' (Some s') = refl

@@ -4,4 +4,5 @@ pub mod Fills
 pub mod Ways
 pub mod Bounds
 pub mod Stood
+pub mod LawProofs
 pub mod Steps

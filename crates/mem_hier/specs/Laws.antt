@@ -37,6 +37,12 @@ timing_at c Dl2 = dl2_timing c
 timing_at c Itlb = tlb_timing c c.itlb
 timing_at c Dtlb = tlb_timing c c.dtlb
 
+-- where hits wait, one takes no longer than the greatest latency of its level
+abbrev pub WaitIsBounded : HierConfig → List Reference → Which → ℕ → ℕ → Type 0
+WaitIsBounded c h which addr cycle =
+    (shape : CacheConfig) → shape_of c which ≡ Some shape
+    → hit_latency (timing_at c which) (fill_end_of shape (calls_at (calls_of c h) which) (block_of shape addr)) cycle ≤ (timing_at c which).greatest
+
 -- Where nothing is held at all, a latency is a lookup latency.
 pub record IsBare (c : HierConfig) : Type 0 where
   pub il1 : c.il1 ≡ Off

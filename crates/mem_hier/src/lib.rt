@@ -4,8 +4,15 @@
 mod caches;
 mod config;
 mod hier;
+mod laws;
 mod levels;
+#[cfg(test)]
+mod tests;
 mod timing;
 
 pub use config::{HierConfig, Level, Which};
 pub use hier::Hier;
+pub use laws::{
+    bare_references_take_lookups, first_references_miss, latencies_have_bounds,
+    waiting_hits_are_bounded, worked_latencies,
+};

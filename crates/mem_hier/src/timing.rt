@@ -128,7 +128,11 @@ impl HierConfig {
     {
         let shared = self.dl2.own();
         let behind = self.il2.own_or(shared);
-        let behind_lookup = if self.il2.is_shared() { self.dl2lat } else { self.il2lat };
+        let behind_lookup = if self.il2.is_shared() {
+            self.dl2lat
+        } else {
+            self.il2lat
+        };
         Timings {
             il1: self.first_timing(self.il1lat, self.il1.own(), behind_lookup, behind),
             behind_il1: self.last_timing(behind_lookup, behind),
