@@ -76,7 +76,7 @@ unfolding last_access
 last_missed t shape calls addr write cycle e = ap (λ b. cond b (hit t shape calls addr write cycle) (missed t.greatest calls addr write cycle)) e
 
 -- what holds of a hit and of a miss holds of the access
-last_cases : (P : Served → Type 0) (t : Timing) (shape : CacheConfig) (calls : List Call) (addr : ℕ) (write : Bool) (cycle : ℕ)
+pub last_cases : (P : Served → Type 0) (t : Timing) (shape : CacheConfig) (calls : List Call) (addr : ℕ) (write : Bool) (cycle : ℕ)
     → P (hit t shape calls addr write cycle) → P (missed t.greatest calls addr write cycle) → P (last_access t shape calls addr write cycle)
 last_cases P t shape calls addr write cycle on_hit on_miss = by_case (touch_of shape calls addr write).hit refl
   where

@@ -5,4 +5,6 @@ pub mod Ways
 pub mod Bounds
 pub mod Stood
 pub mod LawProofs
+pub mod Asked
+pub mod Balance
 pub mod Steps

@@ -95,6 +95,10 @@ asked_of c (Load addr cycle ∷ h) which = asked_by_data c h addr false which ++
 asked_of c (Store addr cycle ∷ h) which = asked_by_data c h addr true which ++ asked_of c h which
 asked_of c (SettleAll ∷ h) which = asked_of c h which
 
+-- a cache or TLB counts what it was asked
+abbrev pub CountsAsked : HierConfig → List Reference → Which → Type 0
+CountsAsked c h which = counts_at c h which ≡ option_map (λ s. counts_of s (asked_of c h which)) (shape_of c which)
+
 -- how many accesses a cache passes on: a read for each miss, and a write for each write-back
 abbrev pub passed_on : Counts → ℕ
 passed_on n = n.misses + n.writebacks

@@ -48,7 +48,7 @@ struct Row {
     itlb: Option<CacheConfig>,
     dtlb: Option<CacheConfig>,
     latencies: [[u32; 18]; 2],
-    counts: [Option<[u64; 4]>; 6],
+    counts: [Option<(u64, u64, u64, u64)>; 6],
 }
 
 const ALL: [Which; 6] = [
@@ -130,8 +130,8 @@ const ROWS: [Row; 12] = [
             None,
             None,
             None,
-            Some([3, 4, 3, 0]),
-            Some([4, 6, 4, 0]),
+            Some((3, 4, 3, 0)),
+            Some((4, 6, 4, 0)),
         ],
     },
     Row {
@@ -147,11 +147,11 @@ const ROWS: [Row; 12] = [
         ],
         counts: [
             None,
-            Some([2, 8, 6, 2]),
+            Some((2, 8, 6, 2)),
             None,
             None,
             None,
-            Some([4, 6, 4, 0]),
+            Some((4, 6, 4, 0)),
         ],
     },
     Row {
@@ -171,10 +171,10 @@ const ROWS: [Row; 12] = [
         ],
         counts: [
             None,
-            Some([2, 8, 6, 2]),
+            Some((2, 8, 6, 2)),
             None,
-            Some([3, 7, 4, 1]),
-            Some([3, 4, 3, 0]),
+            Some((3, 7, 4, 1)),
+            Some((3, 4, 3, 0)),
             None,
         ],
     },
@@ -189,7 +189,7 @@ const ROWS: [Row; 12] = [
             [25, 3, 2, 3, 0, 25, 3, 0, 25, 3, 0, 3, 25, 0, 3, 25, 3, 25],
             [25, 3, 24, 3, 0, 25, 3, 0, 25, 3, 0, 3, 25, 0, 3, 25, 3, 25],
         ],
-        counts: [Some([1, 6, 4, 0]), None, None, None, None, None],
+        counts: [Some((1, 6, 4, 0)), None, None, None, None, None],
     },
     Row {
         il1: IL1,
@@ -207,12 +207,12 @@ const ROWS: [Row; 12] = [
             ],
         ],
         counts: [
-            Some([1, 6, 4, 0]),
-            Some([2, 8, 6, 2]),
+            Some((1, 6, 4, 0)),
+            Some((2, 8, 6, 2)),
             None,
             None,
-            Some([3, 4, 3, 0]),
-            Some([4, 6, 4, 0]),
+            Some((3, 4, 3, 0)),
+            Some((4, 6, 4, 0)),
         ],
     },
     Row {
@@ -231,12 +231,12 @@ const ROWS: [Row; 12] = [
             ],
         ],
         counts: [
-            Some([1, 6, 4, 0]),
-            Some([2, 8, 6, 2]),
+            Some((1, 6, 4, 0)),
+            Some((2, 8, 6, 2)),
             None,
-            Some([3, 7, 4, 1]),
+            Some((3, 7, 4, 1)),
             None,
-            Some([4, 6, 4, 0]),
+            Some((4, 6, 4, 0)),
         ],
     },
     Row {
@@ -251,11 +251,11 @@ const ROWS: [Row; 12] = [
             [36, 3, 35, 3, 0, 36, 3, 0, 36, 3, 0, 3, 36, 0, 3, 36, 3, 35],
         ],
         counts: [
-            Some([1, 6, 4, 0]),
+            Some((1, 6, 4, 0)),
             None,
-            Some([1, 5, 3, 0]),
+            Some((1, 5, 3, 0)),
             None,
-            Some([3, 4, 3, 0]),
+            Some((3, 4, 3, 0)),
             None,
         ],
     },
@@ -275,9 +275,9 @@ const ROWS: [Row; 12] = [
             ],
         ],
         counts: [
-            Some([1, 6, 4, 0]),
-            Some([2, 8, 6, 2]),
-            Some([1, 5, 3, 0]),
+            Some((1, 6, 4, 0)),
+            Some((2, 8, 6, 2)),
+            Some((1, 5, 3, 0)),
             None,
             None,
             None,
@@ -299,12 +299,12 @@ const ROWS: [Row; 12] = [
             ],
         ],
         counts: [
-            Some([1, 6, 4, 0]),
-            Some([2, 8, 6, 2]),
-            Some([1, 5, 3, 0]),
-            Some([3, 7, 4, 1]),
-            Some([3, 4, 3, 0]),
-            Some([4, 6, 4, 0]),
+            Some((1, 6, 4, 0)),
+            Some((2, 8, 6, 2)),
+            Some((1, 5, 3, 0)),
+            Some((3, 7, 4, 1)),
+            Some((3, 4, 3, 0)),
+            Some((4, 6, 4, 0)),
         ],
     },
     Row {
@@ -321,12 +321,12 @@ const ROWS: [Row; 12] = [
             ],
         ],
         counts: [
-            Some([1, 6, 4, 0]),
-            Some([2, 8, 6, 2]),
+            Some((1, 6, 4, 0)),
+            Some((2, 8, 6, 2)),
             None,
-            Some([7, 9, 6, 1]),
+            Some((7, 9, 6, 1)),
             None,
-            Some([4, 6, 4, 0]),
+            Some((4, 6, 4, 0)),
         ],
     },
     Row {
@@ -346,10 +346,10 @@ const ROWS: [Row; 12] = [
         ],
         counts: [
             None,
-            Some([6, 11, 9, 3]),
+            Some((6, 11, 9, 3)),
             None,
             None,
-            Some([3, 4, 3, 0]),
+            Some((3, 4, 3, 0)),
             None,
         ],
     },
@@ -368,9 +368,9 @@ const ROWS: [Row; 12] = [
         ],
         counts: [
             None,
-            Some([6, 11, 9, 3]),
+            Some((6, 11, 9, 3)),
             None,
-            Some([5, 9, 6, 2]),
+            Some((5, 9, 6, 2)),
             None,
             None,
         ],
@@ -467,10 +467,10 @@ fn answers(hier: &mut Hier, requests: &[Request], want: &[u32]) -> bool
 }
 
 /// The counts of these hits, misses, replacements and write-backs.
-fn counted(numbers: Option<[u64; 4]>) -> Option<Counts> {
+fn counted(numbers: Option<(u64, u64, u64, u64)>) -> Option<Counts> {
     match numbers {
         None => None,
-        Some([hits, misses, replacements, writebacks]) => Some(Counts {
+        Some((hits, misses, replacements, writebacks)) => Some(Counts {
             accesses: hits.saturating_add(misses),
             hits,
             misses,
@@ -481,7 +481,7 @@ fn counted(numbers: Option<[u64; 4]>) -> Option<Counts> {
 }
 
 /// Whether a hierarchy has these counts.
-fn counts_agree(hier: &Hier, counts: &[Option<[u64; 4]>; 6]) -> bool {
+fn counts_agree(hier: &Hier, counts: &[Option<(u64, u64, u64, u64)>; 6]) -> bool {
     for i in 0..6 {
         if hier.counts(ALL[i]) != counted(counts[i]) {
             return false;
@@ -496,7 +496,7 @@ fn agrees(
     config: &HierConfig,
     requests: &[Request],
     latencies: &[u32],
-    counts: &[Option<[u64; 4]>; 6],
+    counts: &[Option<(u64, u64, u64, u64)>; 6],
 ) -> Result<bool, OutOfMemory>
     requires { (length requests.now ≡ length latencies.now) × (length latencies.now < 1000) }
 {
