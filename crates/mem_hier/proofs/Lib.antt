@@ -1,0 +1,10 @@
+pub mod Worked
+pub mod Shapes
+pub mod Fills
+pub mod Ways
+pub mod Bounds
+pub mod Stood
+pub mod LawProofs
+pub mod Asked
+pub mod Balance
+pub mod Steps

@@ -1,0 +1,29 @@
+use Rattle.std.proofs.Common.{◌^◌, ◌<◌, ◌≤◌, sym, subst, arith}
+use Rattle.mem_hier.specs.Replay.{Load}
+use Rattle.mem_hier.specs.Stands.{Held, StandsFor}
+use Rattle.mem_hier.specs.Sound.{shown}
+use Rattle.mem_hier.proofs.Stood.{of_load, stood, sound_after, has_room, has_timings}
+use Rattle.mem_hier.proofs.hier.Hier.load.Goals as goal
+
+pub invariant_of-self : goal.invariant_of-self
+invariant_of-self c =
+    let less : c.self.inside.references < 2 ^ 60 = subst (λ (v : Held). v.references < 2 ^ 60) (sym c.self.view_is) c.requires.references in
+    sound_after
+    (record { config = c.self.inside.config; caches = shown c.self.inside.caches; references = c.self.inside.references; last_cycle = c.self.inside.last_cycle })
+    c.self.inside.timings (shown c.data.new.self) c.args.cycle c.self.invariant less c.data.ensures.accesses
+
+pub returns-clause-latency : goal.returns-clause-latency
+returns-clause-latency c = λ config h st.
+    let stands = subst (λ v. StandsFor v config h) (sym c.self.view_is) st in
+    let order : c.self.inside.last_cycle ≤ c.args.cycle = subst (λ (v : Held). v.last_cycle ≤ c.args.cycle) (sym c.self.view_is) c.requires.order in
+    (stood
+    (record { config = c.self.inside.config; caches = shown c.self.inside.caches; references = c.self.inside.references; last_cycle = c.self.inside.last_cycle })
+    c.self.inside.timings (Load c.args.addr c.args.cycle) c.args.cycle c.data.result (shown c.data.new.self) (of_load c.args.addr c.args.cycle) c.self.invariant order (c.data.ensures.answer c.self.inside.config) config h stands).latency
+
+pub returns-clause-stands : goal.returns-clause-stands
+returns-clause-stands c = λ config h st.
+    let stands = subst (λ v. StandsFor v config h) (sym c.self.view_is) st in
+    let order : c.self.inside.last_cycle ≤ c.args.cycle = subst (λ (v : Held). v.last_cycle ≤ c.args.cycle) (sym c.self.view_is) c.requires.order in
+    (stood
+    (record { config = c.self.inside.config; caches = shown c.self.inside.caches; references = c.self.inside.references; last_cycle = c.self.inside.last_cycle })
+    c.self.inside.timings (Load c.args.addr c.args.cycle) c.args.cycle c.data.result (shown c.data.new.self) (of_load c.args.addr c.args.cycle) c.self.invariant order (c.data.ensures.answer c.self.inside.config) config h stands).stands

@@ -1,0 +1,5 @@
+pub mod Limits
+pub mod Replay
+pub mod Stands
+pub mod Sound
+pub mod Laws
