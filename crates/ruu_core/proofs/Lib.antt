@@ -1,0 +1,5 @@
+pub mod Calls
+pub mod LawProofs
+pub mod Links
+pub mod Rows
+pub mod Walks

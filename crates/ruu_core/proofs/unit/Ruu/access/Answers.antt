@@ -1,0 +1,8 @@
+use Rattle.ruu_core.proofs.Calls.{access_sound, access_returns}
+use Rattle.ruu_core.proofs.unit.Ruu.access.Goals as goal
+
+pub invariant_of-self : goal.invariant_of-self
+invariant_of-self c = access_sound c.self.inside.slots c.note.new.slots c.self.inside.last c.args.row c.args.cycle c.args.done c.self.invariant c.note.ensures
+
+pub returns : goal.returns
+returns c = access_returns c.self.inside.slots c.note.new.slots c.args.self.now c.self.inside.last c.self.inside.past c.args.row c.args.cycle c.args.done c.self.view_is c.note.ensures

@@ -1,0 +1,8 @@
+use Rattle.ruu_core.proofs.Calls.{issue_sound, issue_returns}
+use Rattle.ruu_core.proofs.unit.Ruu.issue.Goals as goal
+
+pub invariant_of-self : goal.invariant_of-self
+invariant_of-self c = issue_sound c.self.inside.slots c.note.new.slots c.self.inside.last c.args.row c.args.cycle c.args.done c.self.invariant c.note.ensures
+
+pub returns : goal.returns
+returns c = issue_returns c.self.inside.slots c.note.new.slots c.args.self.now c.self.inside.last c.self.inside.past c.args.row c.args.cycle c.args.done c.self.view_is c.note.ensures

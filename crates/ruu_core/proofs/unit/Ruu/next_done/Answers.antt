@@ -1,0 +1,6 @@
+use Rattle.std.proofs.Common.{◌∙◌}
+use Rattle.ruu_core.proofs.Calls.{done_answer}
+use Rattle.ruu_core.proofs.unit.Ruu.next_done.Goals as goal
+
+pub returns : goal.returns
+returns c = c.least.ensures ∙ done_answer c.args.cycle c.args.after c.self.inside.slots c.args.self.now c.self.inside.last c.self.inside.past c.self.view_is c.self.invariant

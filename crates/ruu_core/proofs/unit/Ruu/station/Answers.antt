@@ -1,0 +1,8 @@
+use Rattle.ruu_core.proofs.Calls.{named_live, station_answer}
+use Rattle.ruu_core.proofs.unit.Ruu.station.Goals as goal
+
+pub named-requires : goal.named-requires
+named-requires c = named_live c.args.row c.self.inside.slots c.args.self.now c.self.inside.last c.self.inside.past c.self.view_is c.requires
+
+pub returns : goal.returns
+returns c = station_answer c.args.row c.self.inside.slots c.args.self.now c.self.inside.last c.self.inside.past c.named.result.now c.self.view_is c.self.invariant c.named.ensures

@@ -1,0 +1,131 @@
+//! Walks over the ring, from the oldest slot to the newest.
+ghost use Rattle.std.specs.Prelude.{◌≡◌, ◌<◌, ◌≤◌, length, find, map, take, reverse, slice_get, slice_set, Some, IsTrue, option_copied};
+ghost use Rattle.std.specs.List.{list_any};
+ghost use Rattle.circular_buffer.specs.Buffer.{buffer};
+ghost use Rattle.ruu_core.specs.declared.slot.Slot.{Slot};
+ghost use Rattle.ruu_core.specs.Slots.{least_of, source_behind, source_for, sources_behind, slot_after, slot_named, up_to};
+
+#[cfg(test)]
+use crate::search::either;
+use crate::search::Search;
+use crate::slot::{Event, Slot, Source};
+use circular_buffer::HeapCircularBuffer;
+use pisa_isa::Place;
+
+/// The slot at a place.
+pub fn slot_at(slots: &HeapCircularBuffer<Slot>, at: usize) -> &Slot
+    requires { at < length slots.now.items }
+    ensures { slice_get slots.now.items at ≡ Some result.now }
+{
+    match slots.get(at) {
+        Some(slot) => slot,
+        None => unreachable!(),
+    }
+}
+
+/// The least row above a number that passes.
+pub fn least(slots: &HeapCircularBuffer<Slot>, what: Search, after: Option<u64>) -> Option<u64>
+    ensures { result ≡ least_of what after slots.now.items }
+{
+    for at in 0..slots.len() {
+        let slot = slot_at(slots, at);
+        if what.passes_above(after, slot) {
+            return Some(slot.station.row);
+        }
+    }
+    None
+}
+
+/// The slot of a live row.
+pub fn named(slots: &HeapCircularBuffer<Slot>, row: u64) -> &Slot
+    requires { IsTrue (list_any (slot_named row) slots.now.items) }
+    ensures { find (slot_named row) slots.now.items ≡ Some result.now }
+{
+    for at in 0..slots.len() {
+        let slot = slot_at(slots, at);
+        if slot.station.row == row {
+            return slot;
+        }
+    }
+    unreachable!()
+}
+
+/// What a reader of the place behind all slots waits for.
+fn source(slots: &HeapCircularBuffer<Slot>, place: Place) -> Source
+    ensures { result ≡ source_behind place (reverse slots.now.items) }
+{
+    let mut source = Source::NONE;
+    for at in 0..slots.len() {
+        let slot = slot_at(slots, at);
+        if slot.writes_place(place) {
+            source = slot.source();
+        }
+    }
+    source
+}
+
+fn source_for(slots: &HeapCircularBuffer<Slot>, place: Option<&Place>) -> Source
+    ensures { result ≡ source_for (option_copied place.entry) (reverse slots.now.items) }
+{
+    match place {
+        Some(place) => source(slots, *place),
+        None => Source::NONE,
+    }
+}
+
+/// What a reader of up to three places behind all slots waits for.
+pub fn sources(slots: &HeapCircularBuffer<Slot>, places: &[Place]) -> [Source; 3]
+    ensures { result ≡ sources_behind places.now (reverse slots.now.items) }
+{
+    [
+        source_for(slots, places.get(0)),
+        source_for(slots, places.get(1)),
+        source_for(slots, places.get(2)),
+    ]
+}
+
+/// How many slots, from the oldest on, are not above the row.
+pub fn count_up_to(slots: &HeapCircularBuffer<Slot>, row: u64) -> usize
+    ensures within { result ≤ length slots.now.items }
+    ensures slots { reverse (take result slots.now.items) ≡ up_to row (reverse slots.now.items) }
+{
+    let mut count = 0;
+    for at in 0..slots.len() {
+        if slot_at(slots, at).station.row <= row {
+            count = at + 1;
+        }
+    }
+    count
+}
+
+fn note_at(slots: &mut HeapCircularBuffer<Slot>, at: usize, event: &Event)
+    requires { at < length slots.old.items }
+    ensures { (x : Slot) → slice_get slots.old.items at ≡ Some x
+        → slots.new ≡ buffer (slice_set slots.old.items at (slot_after event.now x)) slots.old.capacity }
+{
+    match slots.get_mut(at) {
+        Some(slot) => slot.note(event),
+        None => unreachable!(),
+    }
+}
+
+/// Tells every slot what happens to a row.
+pub fn note(slots: &mut HeapCircularBuffer<Slot>, event: &Event)
+    ensures { slots.new ≡ buffer (map (slot_after event.now) slots.old.items) slots.old.capacity }
+{
+    for at in 0..slots.len() {
+        note_at(slots, at, event);
+    }
+}
+
+/// Whether the row is live.
+#[cfg(test)]
+pub fn is_live(slots: &HeapCircularBuffer<Slot>, row: u64) -> bool
+    ensures { result ≡ list_any (slot_named row) (reverse slots.now.items) }
+{
+    let mut live = false;
+    for at in 0..slots.len() {
+        live = either(slot_at(slots, at).station.row == row, live);
+    }
+    live
+}
