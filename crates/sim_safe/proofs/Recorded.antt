@@ -19,7 +19,7 @@ use Rattle.sim_safe.specs.Advance.{AdvanceState}
 use Rattle.sim_safe.specs.declared.observer.Advance.TheVariants as advance
 use Rattle.sim_safe.specs.declared.observer.RunFault.{RunFault}
 use Rattle.sim_safe.specs.declared.observer.RunFault.TheVariants as faults
-use Rattle.paged_mem.specs.Memory.{Pages, IsReserved}
+use Rattle.paged_mem.specs.Memory.{Pages}
 use Rattle.sim_safe.specs.Recording.{AreRecorded, wants_record, taken, ready_if, ready, recording_after, recording_at, recording, serve, is_end_of_trace, Prepares, RecordsFront, RecordState}
 use Rattle.sim_safe.proofs.Steps.{Reaches, reaches_on, end_stop, after_stop, after_all}
 use Rattle.sim_safe.proofs.Runs.{failed_state}
