@@ -1,13 +1,13 @@
 -- The laws of the order of memory.
-use Rattle.std.proofs.Common.{◌≡◌, ◌≢◌, ℕ, ◌+◌, ◌<◌, ◌≤◌, Some, None, cond, Bool, true, false, List, [], ◌∷◌, ◌++◌, refl, sym, ap, ◌∙◌, arith}
+use Rattle.std.proofs.Common.{◌≡◌, ◌≢◌, ℕ, ◌+◌, ◌<◌, ◌≤◌, Some, None, cond, Bool, true, false, List, [], ◌∷◌, ◌++◌, refl, sym, ap, ◌∙◌, arith, eq-eqb}
 use Rattle.std.specs.Prelude.{map, filter, Option, Result, Ok, Err, ◌==◌, ◌&&◌, ◌||◌, not, nat_le, nat_eq, All, if◌then◌else◌}
 use Rattle.std.specs.List.{list_any}
 use Rattle.std.proofs.lemmas.List.Elements.{All-cons, All-nil}
-use Rattle.std.proofs.lemmas.Bool.{eqb-true, leb-true, le-leb}
-use Rattle.lsq_core.specs.Queue.{Entry, Queue, is_by, is_done, forbids, forwards, or_else, oldest, answer, answer_after, load_answer, set_once, at_row, with_address, with_data, rises_to}
+use Rattle.std.proofs.lemmas.Bool.{eqb-true, ltb-true, leb-true, le-leb}
+use Rattle.lsq_core.specs.Queue.{Entry, Queue, is_by, is_done, forbids, forwards, or_else, oldest, answer, answer_after, load_answer, set_once, at_row, with_address, with_data, falls_below, rises_to}
 use Rattle.lsq_core.specs.Slots.{up_to}
-use Rattle.lsq_core.specs.Laws.{IsOldestForbidding, NamesTheOldest, StaysAllowed, IgnoresYounger}
-use Rattle.lsq_core.proofs.Rises.{up_to_kept}
+use Rattle.lsq_core.specs.Laws.{IsOldestForbidding, NamesTheOldest, StaysAllowed, IgnoresYounger, StandsAt}
+use Rattle.lsq_core.proofs.Rises.{up_to_kept, and_left, and_right}
 
 -- ---- the oldest store is named
 
@@ -213,4 +213,61 @@ ignores_younger c row q =
     record {
       entry = λ e other. passed_over c row e q.entries other;
       squash = λ last rises le. ap (load_answer c row) (sym (up_to_kept last q.last q.entries rises)) ∙ cut_over c row last q.entries le;
+    }
+
+-- ---- entries by their numbers
+
+above_mid : (m : ℕ) (younger older : List Entry) (e : Entry) → falls_below m (younger ++ e ∷ older) ≡ true → e.row < m
+above_mid m [] older e h = ltb-true e.row m (and_left _ _ h)
+above_mid m (y ∷ ys) older e h =
+    let here : y.row < m = ltb-true y.row m (and_left _ _ h) in
+    let behind : e.row < y.row = above_mid y.row ys older e (and_right _ _ h) in
+    omega arith
+
+apart_rows : (a b : ℕ) → a ≢ b → (a == b) ≡ false
+apart_rows a b other = by_test (a == b) refl
+  where
+    by_test : (t : Bool) → (a == b) ≡ t → t ≡ false
+    by_test true e = absurd (other (eqb-true a b e))
+    by_test false e = refl
+
+own_row : (e : Entry) → (e.row == e.row) ≡ true
+own_row e = eq-eqb e.row e.row refl
+
+answer_at : (c m : ℕ) (younger older : List Entry) (e : Entry) → falls_below m (younger ++ e ∷ older) ≡ true
+    → load_answer c e.row (younger ++ e ∷ older) ≡ answer_after c e.block older
+answer_at c m [] older e h = ap (λ b. cond b (answer_after c e.block older) (load_answer c e.row older)) (own_row e)
+answer_at c m (y ∷ ys) older e h =
+    let behind : e.row < y.row = above_mid y.row ys older e (and_right _ _ h) in
+    ap (λ b. cond b (answer_after c y.block (ys ++ e ∷ older)) (load_answer c e.row (ys ++ e ∷ older))) (apart_rows y.row e.row (λ same. absurd (omega arith)))
+    ∙ answer_at c y.row ys older e (and_right _ _ h)
+
+older_stay : (k m : ℕ) (f : Entry → Entry) (es : List Entry) → m ≤ k → falls_below m es ≡ true → at_row k f es ≡ es
+older_stay k m f [] le h = refl
+older_stay k m f (e ∷ es) le h =
+    let here : e.row < m = ltb-true e.row m (and_left _ _ h) in
+    ap (λ b. cond b (f e) e ∷ at_row k f es) (apart_rows e.row k (λ same. absurd (omega arith)))
+    ∙ ap (λ l. e ∷ l) (older_stay k e.row f es (omega arith) (and_right _ _ h))
+
+change_at : (f : Entry → Entry) (m : ℕ) (younger older : List Entry) (e : Entry) → falls_below m (younger ++ e ∷ older) ≡ true
+    → at_row e.row f (younger ++ e ∷ older) ≡ younger ++ f e ∷ older
+change_at f m [] older e h =
+    ap (λ b. cond b (f e) e ∷ at_row e.row f older) (own_row e) ∙ ap (λ l. f e ∷ l) (older_stay e.row e.row f older (omega arith) (and_right _ _ h))
+change_at f m (y ∷ ys) older e h =
+    let behind : e.row < y.row = above_mid y.row ys older e (and_right _ _ h) in
+    ap (λ b. cond b (f y) y ∷ at_row e.row f (ys ++ e ∷ older)) (apart_rows y.row e.row (λ same. absurd (omega arith)))
+    ∙ ap (λ l. y ∷ l) (change_at f y.row ys older e (and_right _ _ h))
+
+falls : (last : Option ℕ) (es : List Entry) → rises_to last es ≡ true → (m : ℕ) × (falls_below m es ≡ true)
+falls (Some m) es r = (m + 1, r)
+falls None [] r = (0, refl)
+falls None (y ∷ es) r = absurd cc
+
+pub stands_at : (younger older : List Entry) (e : Entry) (q : Queue) → q.entries ≡ younger ++ e ∷ older → rises_to q.last q.entries ≡ true → StandsAt younger older e q
+stands_at younger older e q is h =
+    let (m, below) = falls q.last q.entries h in
+    let below' : falls_below m (younger ++ e ∷ older) ≡ true = ap (falls_below m) (sym is) ∙ below in
+    record {
+      answer = λ c. ap (load_answer c e.row) is ∙ answer_at c m younger older e below';
+      change = λ f. ap (at_row e.row f) is ∙ change_at f m younger older e below';
     }

@@ -1,6 +1,6 @@
 -- Laws of the order of memory.
 use Rattle.std.specs.Prelude.{◌≡◌, ◌≢◌, ℕ, ◌≤◌, Bool, true, false, List, [], ◌∷◌, ◌++◌, Ok, Err, filter, nat_le, All, ◌↔◌}
-use Rattle.lsq_core.specs.Queue.{Entry, Queue, forbids, oldest, answer_after, load_answer, with_address, with_data, rises_to}
+use Rattle.lsq_core.specs.Queue.{Entry, Queue, forbids, oldest, answer_after, load_answer, at_row, with_address, with_data, rises_to}
 
 -- of these entries, the store of that row forbids the load, and none before it does
 abbrev pub IsOldestForbidding : ℕ → ℕ → List Entry → ℕ → Type 0
@@ -25,3 +25,8 @@ pub record IgnoresYounger (c row : ℕ) (q : Queue) : Type 0 where
   pub entry : (e : Entry) → e.row ≢ row → load_answer c row (e ∷ q.entries) ≡ load_answer c row q.entries
   pub squash : (last : ℕ) → rises_to q.last q.entries ≡ true → row ≤ last
       → load_answer c row (filter (λ e. nat_le e.row last) q.entries) ≡ load_answer c row q.entries
+
+-- what a load may do is asked of the entries before it, with its own block, and marks are set where the row stands
+pub record StandsAt (younger older : List Entry) (e : Entry) (q : Queue) : Type 0 where
+  pub answer : (c : ℕ) → load_answer c e.row q.entries ≡ answer_after c e.block older
+  pub change : (f : Entry → Entry) → at_row e.row f q.entries ≡ younger ++ f e ∷ older

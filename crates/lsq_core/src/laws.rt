@@ -1,7 +1,7 @@
 //! What follows from the definitions, each law as the contract of a function that does nothing.
-ghost use Rattle.std.specs.Prelude.{◌≡◌, ℕ, Bool, List, Ok};
-ghost use Rattle.lsq_core.specs.Queue.{Entry, Queue, load_answer};
-ghost use Rattle.lsq_core.specs.Laws.{NamesTheOldest, StaysAllowed, IgnoresYounger};
+ghost use Rattle.std.specs.Prelude.{◌≡◌, ℕ, Bool, true, List, ◌∷◌, ◌++◌, Ok};
+ghost use Rattle.lsq_core.specs.Queue.{Entry, Queue, load_answer, rises_to};
+ghost use Rattle.lsq_core.specs.Laws.{NamesTheOldest, StaysAllowed, IgnoresYounger, StandsAt};
 
 /// Where a load may not issue, the store that is named forbids it and no store before that one does;
 /// where it may, no older store forbids it.
@@ -19,4 +19,10 @@ pub fn a_load_that_may_issue_stays_allowed()
 /// What a load may do doesn't depend on the rows behind it.
 pub fn younger_rows_do_not_matter()
     ensures { (c row : ℕ) (q : Queue) → IgnoresYounger c row q }
+{}
+
+/// What calls say of a row by its number, they say of the row where it stands in the queue.
+pub fn numbers_name_entries()
+    ensures { (younger older : List Entry) (e : Entry) (q : Queue) → q.entries ≡ younger ++ e ∷ older
+        → rises_to q.last q.entries ≡ true → StandsAt younger older e q }
 {}

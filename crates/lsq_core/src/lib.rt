@@ -14,6 +14,7 @@ mod slots;
 mod tests;
 
 pub use laws::{
-    a_load_that_may_issue_stays_allowed, the_oldest_store_is_named, younger_rows_do_not_matter,
+    a_load_that_may_issue_stays_allowed, numbers_name_entries, the_oldest_store_is_named,
+    younger_rows_do_not_matter,
 };
 pub use queue::Lsq;

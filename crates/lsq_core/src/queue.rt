@@ -1,6 +1,6 @@
 //! The queue.
-ghost use Rattle.std.specs.Prelude.{◌≡◌, ◌^◌, ◌<◌, ◌↔◌, Some, IsTrue, IfOk};
-ghost use Rattle.lsq_core.specs.Queue.{HasRoom, is_above, holds_load, holds_store, first_row, load_answer, empty, added, with_address, with_data, squashed, retired};
+ghost use Rattle.std.specs.Prelude.{◌≡◌, ◌^◌, ◌<◌, ◌↔◌, true, Some, IsTrue, IfOk};
+ghost use Rattle.lsq_core.specs.Queue.{HasRoom, rises_to, is_above, holds_load, holds_store, first_row, load_answer, empty, added, with_address, with_data, squashed, retired};
 
 use crate::slots::{self, Part, Slot};
 use circular_buffer::HeapCircularBuffer;
@@ -11,8 +11,8 @@ use std::marker::Model;
 /// The loads and stores in flight, the oldest first, and the last row that was added.
 #[derive(Drop)]
 pub struct Lsq {
-    slots: HeapCircularBuffer<Slot>,
-    last: Option<u64>,
+    pub(crate) slots: HeapCircularBuffer<Slot>,
+    pub(crate) last: Option<u64>,
 }
 
 impl Model for Lsq {
@@ -41,9 +41,10 @@ impl Lsq {
         })
     }
 
-    /// Whether fewer rows are held than there may be.
+    /// Whether fewer rows are held than there may be. At every moment their numbers rise.
     pub fn room(&self) -> bool
-        ensures { IsTrue result ↔ HasRoom self.now }
+        ensures room { IsTrue result ↔ HasRoom self.now }
+        ensures rises { rises_to self.now.last self.now.entries ≡ true }
     {
         self.slots.len() < self.slots.capacity()
     }
@@ -109,38 +110,5 @@ impl Lsq {
         ensures { self.new ≡ retired self.old }
     {
         let _oldest = self.slots.pop_front();
-    }
-}
-
-/// What tests ask before they call.
-#[cfg(test)]
-impl Lsq {
-    ghost use Rattle.lsq_core.specs.Slots.{holds_of};
-
-    /// Whether the row is above every row that was added.
-    pub fn rises(&self, row: u64) -> bool
-        ensures { result ≡ is_above self.now.last row }
-    {
-        match self.last {
-            Some(last) => last < row,
-            None => true,
-        }
-    }
-
-    /// Whether a store of the row is held, or a load.
-    pub fn holds(&self, row: u64, store: bool) -> bool
-        ensures { result ≡ holds_of store row self.now.entries }
-    {
-        slots::holds(&self.slots, row, store)
-    }
-
-    /// The oldest row.
-    pub fn first(&self) -> Option<u64>
-        ensures { result ≡ first_row self.now.entries }
-    {
-        match self.slots.get(0) {
-            Some(slot) => Some(slot.row),
-            None => None,
-        }
     }
 }

@@ -3,7 +3,7 @@ ghost use Rattle.std.specs.Prelude.{◌≡◌, ◌<◌, ◌≤◌, ◌&&◌, ◌
 ghost use Rattle.circular_buffer.specs.Buffer.{buffer};
 ghost use Rattle.lsq_core.specs.declared.slots.Slot.{Slot};
 ghost use Rattle.lsq_core.specs.Queue.{is_by, or_else, set_once, forbids, forwards, answer};
-ghost use Rattle.lsq_core.specs.Slots.{entry_of, entries_of, block_of, answer_for, learned, up_to, is_of, holds_of};
+ghost use Rattle.lsq_core.specs.Slots.{entry_of, entries_of, block_of, answer_for, learned, up_to};
 
 use circular_buffer::HeapCircularBuffer;
 
@@ -58,7 +58,7 @@ fn or_this(first: Option<u64>, passes: bool, row: u64) -> Option<u64>
     }
 }
 
-fn either(a: bool, b: bool) -> bool
+pub fn either(a: bool, b: bool) -> bool
     ensures { result ≡ (a || b) }
 {
     a || b
@@ -105,7 +105,7 @@ impl Slot {
 }
 
 /// The slot at a place.
-fn slot_at(slots: &HeapCircularBuffer<Slot>, at: usize) -> Slot
+pub fn slot_at(slots: &HeapCircularBuffer<Slot>, at: usize) -> Slot
     requires { at < length slots.now.items }
     ensures { slice_get slots.now.items at ≡ Some result }
 {
@@ -184,24 +184,4 @@ pub fn learn(slots: &mut HeapCircularBuffer<Slot>, row: u64, cycle: u64, part: P
     for at in 0..slots.len() {
         learn_at(slots, at, row, cycle, part);
     }
-}
-
-/// Whether a store of the row is held, or a load.
-#[cfg(test)]
-pub fn holds(slots: &HeapCircularBuffer<Slot>, row: u64, store: bool) -> bool
-    ensures { result ≡ holds_of store row (entries_of slots.now.items) }
-{
-    let mut held = false;
-    for at in 0..slots.len() {
-        let slot = slot_at(slots, at);
-        held = either(is_held(&slot, row, store), held);
-    }
-    held
-}
-
-#[cfg(test)]
-fn is_held(slot: &Slot, row: u64, store: bool) -> bool
-    ensures { result ≡ is_of store row (entry_of slot.now) }
-{
-    slot.row == row && slot.store == store
 }

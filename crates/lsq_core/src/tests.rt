@@ -1,4 +1,10 @@
+ghost use Rattle.std.specs.Prelude.{◌≡◌};
+ghost use Rattle.lsq_core.specs.Queue.{is_above, first_row};
+ghost use Rattle.lsq_core.specs.Slots.{entry_of, entries_of, is_of, holds_of};
+
 use crate::Lsq;
+use crate::slots::{Slot, either, slot_at};
+use circular_buffer::HeapCircularBuffer;
 use std::test::Fail;
 
 /// A call, with its answer where it has one.
@@ -15,8 +21,53 @@ enum Call {
 
 use Call::{Add, Address, Ask, Data, Retire, Room, Squash};
 
+/// Whether the row is above every row that was added.
+fn rises(queue: &Lsq, row: u64) -> bool
+    ensures { result ≡ is_above queue.now.last row }
+{
+    match queue.last {
+        Some(last) => last < row,
+        None => true,
+    }
+}
+
+fn is_held(slot: &Slot, row: u64, store: bool) -> bool
+    ensures { result ≡ is_of store row (entry_of slot.now) }
+{
+    slot.row == row && slot.store == store
+}
+
+/// Whether a slot has a store of the row, or a load.
+fn is_among(slots: &HeapCircularBuffer<Slot>, row: u64, store: bool) -> bool
+    ensures { result ≡ holds_of store row (entries_of slots.now.items) }
+{
+    let mut held = false;
+    for at in 0..slots.len() {
+        let slot = slot_at(slots, at);
+        held = either(is_held(&slot, row, store), held);
+    }
+    held
+}
+
+/// Whether a store of the row is held, or a load.
+fn holds(queue: &Lsq, row: u64, store: bool) -> bool
+    ensures { result ≡ holds_of store row queue.now.entries }
+{
+    is_among(&queue.slots, row, store)
+}
+
+/// The oldest row.
+fn first(queue: &Lsq) -> Option<u64>
+    ensures { result ≡ first_row queue.now.entries }
+{
+    match queue.slots.get(0) {
+        Some(slot) => Some(slot.row),
+        None => None,
+    }
+}
+
 fn adds(queue: &mut Lsq, row: u64, store: bool, block: u32) -> bool {
-    if !queue.room() || !queue.rises(row) {
+    if !queue.room() || !rises(queue, row) {
         return false;
     }
     queue.add(row, store, block);
@@ -24,7 +75,7 @@ fn adds(queue: &mut Lsq, row: u64, store: bool, block: u32) -> bool {
 }
 
 fn learns_address(queue: &mut Lsq, row: u64, cycle: u64) -> bool {
-    if !queue.holds(row, true) {
+    if !holds(queue, row, true) {
         return false;
     }
     queue.know_address(row, cycle);
@@ -32,7 +83,7 @@ fn learns_address(queue: &mut Lsq, row: u64, cycle: u64) -> bool {
 }
 
 fn learns_data(queue: &mut Lsq, row: u64, cycle: u64) -> bool {
-    if !queue.holds(row, true) {
+    if !holds(queue, row, true) {
         return false;
     }
     queue.know_data(row, cycle);
@@ -40,11 +91,11 @@ fn learns_data(queue: &mut Lsq, row: u64, cycle: u64) -> bool {
 }
 
 fn asks(queue: &Lsq, row: u64, cycle: u64, answer: Result<bool, u64>) -> bool {
-    queue.holds(row, false) && queue.load_may_issue(row, cycle) == answer
+    holds(queue, row, false) && queue.load_may_issue(row, cycle) == answer
 }
 
 fn retires(queue: &mut Lsq, row: u64) -> bool {
-    if queue.first() != Some(row) {
+    if first(queue) != Some(row) {
         return false;
     }
     queue.retire(row);

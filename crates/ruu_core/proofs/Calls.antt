@@ -152,10 +152,10 @@ pub squash_counts : (slots : Buffer Slot) (old : Window) (last past : Option ℕ
     → reverse (take count slots.items) ≡ up_to n (reverse slots.items) → count ≤ length slots.items → length slots.items - count ≡ dropped_by n old
 squash_counts slots old last past n count v h e le =
     let kept : length (take count slots.items) ≡ length (filter (λ r. nat_le r.station.row n) (rows_of slots.items)) =
-        sym (length-reverse (take count slots.items)) ∙ (sym (length-map (reverse (take count slots.items)) shown)
-        ∙ ap length (ap (map shown) e ∙ up_to_kept n last (reverse slots.items) h.rises)) in
+    sym (length-reverse (take count slots.items)) ∙ (sym (length-map (reverse (take count slots.items)) shown)
+    ∙ ap length (ap (map shown) e ∙ up_to_kept n last (reverse slots.items) h.rises)) in
     let all : length (filter (λ r. nat_le r.station.row n) (rows_of slots.items)) + count_by (λ r. nat_lt n r.station.row) (rows_of slots.items) ≡ length (rows_of slots.items) =
-        dropped_kept n (rows_of slots.items) in
+    dropped_kept n (rows_of slots.items) in
     let long : length (rows_of slots.items) ≡ length slots.items = rows-length slots.items in
     let taken : length (take count slots.items) ≡ count = taken_length count slots.items le in
     let here : length slots.items - count ≡ count_by (λ r. nat_lt n r.station.row) (rows_of slots.items) = omega arith in

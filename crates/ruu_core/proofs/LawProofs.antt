@@ -14,7 +14,7 @@ use Rattle.pisa_isa.specs.Classes.{access_by, access_of}
 use Rattle.pisa_isa.specs.Places.{members, destination, writes_of}
 use Rattle.ruu_core.specs.declared.station.Station.{Station}
 use Rattle.ruu_core.specs.Window.{Row, Window, is_at, is_by, is_before, is_above, is_load_kind, is_store_kind, is_load, is_store, writes, writes_place, producer, finished, has_produced, main_done, second_done, is_done, is_ready, completes, or_else, least, next, is_row, row_of, passes, first, later, done_cycle, at_row, issuing, squashed, retired, falls_below, rises_to}
-use Rattle.ruu_core.specs.Laws.{AnswersTheLeast, IssuesOnce, LeavesOlder, CompletesThere, StaysProduced}
+use Rattle.ruu_core.specs.Laws.{AnswersTheLeast, IssuesOnce, LeavesOlder, CompletesThere, StaysProduced, StandsAt}
 use Rattle.ruu_core.proofs.Rows.{and_left, and_right, all_kept, or_this, or_last}
 
 apart : {b : Bool} → b ≡ true → b ≡ false → ⊥
@@ -289,3 +289,68 @@ stores_write_nothing s e = by_inert s.inert e
     by_inert : (b : Bool) → (not b && is_store_kind (access_of s.instr.op)) ≡ true → (if b then [] else writes_of s.instr) ≡ []
     by_inert true k = refl
     by_inert false k = no_place s.instr (code_of s.instr.op).kind (uses s.instr.op).rd k
+
+-- ---- rows by their numbers
+
+above_mid : (m : ℕ) (younger older : List Row) (r : Row) → falls_below m (younger ++ r ∷ older) ≡ true → r.station.row < m
+above_mid m [] older r h = ltb-true r.station.row m (and_left _ _ h)
+above_mid m (y ∷ ys) older r h =
+    let here : y.station.row < m = ltb-true y.station.row m (and_left _ _ h) in
+    let behind : r.station.row < y.station.row = above_mid y.station.row ys older r (and_right _ _ h) in
+    omega arith
+
+other_row : (k : ℕ) (r : Row) → k < r.station.row → is_row k r ≡ false
+other_row k r h = by_test (is_row k r) refl
+  where
+    by_test : (b : Bool) → is_row k r ≡ b → b ≡ false
+    by_test true e = let same : r.station.row ≡ k = eqb-true r.station.row k e in absurd (omega arith)
+    by_test false e = refl
+
+below_row : (k : ℕ) (r : Row) → r.station.row < k → is_row k r ≡ false
+below_row k r h = by_test (is_row k r) refl
+  where
+    by_test : (b : Bool) → is_row k r ≡ b → b ≡ false
+    by_test true e = let same : r.station.row ≡ k = eqb-true r.station.row k e in absurd (omega arith)
+    by_test false e = refl
+
+own_row : (r : Row) → is_row r.station.row r ≡ true
+own_row r = eq-eqb r.station.row r.station.row refl
+
+row_at : (m : ℕ) (younger older : List Row) (r : Row) → falls_below m (younger ++ r ∷ older) ≡ true → row_of r.station.row (younger ++ r ∷ older) ≡ Some r
+row_at m [] older r h = ap (λ b. cond b (Some r) (row_of r.station.row older)) (own_row r)
+row_at m (y ∷ ys) older r h =
+    ap (λ b. cond b (Some y) (row_of r.station.row (ys ++ r ∷ older))) (other_row r.station.row y (above_mid y.station.row ys older r (and_right _ _ h)))
+    ∙ row_at y.station.row ys older r (and_right _ _ h)
+
+passes_at : (test : List Row → Row → Bool) (m : ℕ) (younger older : List Row) (r : Row) → falls_below m (younger ++ r ∷ older) ≡ true
+    → passes test r.station.row (younger ++ r ∷ older) ≡ test older r
+passes_at test m [] older r h = ap (λ b. cond b (test older r) (passes test r.station.row older)) (own_row r)
+passes_at test m (y ∷ ys) older r h =
+    ap (λ b. cond b (test (ys ++ r ∷ older) y) (passes test r.station.row (ys ++ r ∷ older))) (other_row r.station.row y (above_mid y.station.row ys older r (and_right _ _ h)))
+    ∙ passes_at test y.station.row ys older r (and_right _ _ h)
+
+older_stay : (k m : ℕ) (f : Row → Row) (rs : List Row) → m ≤ k → falls_below m rs ≡ true → map (λ x. if is_row k x then f x else x) rs ≡ rs
+older_stay k m f [] le h = refl
+older_stay k m f (r ∷ rs) le h =
+    let here : r.station.row < m = ltb-true r.station.row m (and_left _ _ h) in
+    ap (λ b. cond b (f r) r ∷ map (λ x. if is_row k x then f x else x) rs) (below_row k r (omega arith))
+    ∙ ap (λ l. r ∷ l) (older_stay k r.station.row f rs (omega arith) (and_right _ _ h))
+
+change_at : (f : Row → Row) (m : ℕ) (younger older : List Row) (r : Row) → falls_below m (younger ++ r ∷ older) ≡ true
+    → map (λ x. if is_row r.station.row x then f x else x) (younger ++ r ∷ older) ≡ younger ++ f r ∷ older
+change_at f m [] older r h =
+    ap (λ b. cond b (f r) r ∷ map (λ x. if is_row r.station.row x then f x else x) older) (own_row r)
+    ∙ ap (λ l. f r ∷ l) (older_stay r.station.row r.station.row f older (omega arith) (and_right _ _ h))
+change_at f m (y ∷ ys) older r h =
+    ap (λ b. cond b (f y) y ∷ map (λ x. if is_row r.station.row x then f x else x) (ys ++ r ∷ older)) (other_row r.station.row y (above_mid y.station.row ys older r (and_right _ _ h)))
+    ∙ ap (λ l. y ∷ l) (change_at f y.station.row ys older r (and_right _ _ h))
+
+pub stands_at : (younger older : List Row) (r : Row) (w : Window) → w.rows ≡ younger ++ r ∷ older → rises_to w.last w.rows ≡ true → StandsAt younger older r w
+stands_at younger older r w e h =
+    let (m, below) = falls w.last w.rows h in
+    let below' : falls_below m (younger ++ r ∷ older) ≡ true = ap (falls_below m) (sym e) ∙ below in
+    record {
+      row = ap (row_of r.station.row) e ∙ row_at m younger older r below';
+      answers = λ test. ap (passes test r.station.row) e ∙ passes_at test m younger older r below';
+      change = λ f. ap (map (λ x. if is_row r.station.row x then f x else x)) e ∙ change_at f m younger older r below';
+    }

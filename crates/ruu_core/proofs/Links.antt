@@ -158,22 +158,20 @@ producer_changed f same (r ∷ older) p =
 
 feeds_changed : (f : Row → Row) (g : Source → Source) → Fits f g → (o : Option Row) (x : Source) → Feeds o x → Feeds (option_map f o) (g x)
 feeds_changed f g fits None x h = fits.row x ∙ h
-feeds_changed f g fits (Some o) x (row, load, done) =
-    (
-      fits.row x ∙ (row ∙ ap (λ (s : Station). Some s.row) (sym (fits.station o))),
-      fits.load x ∙ (load ∙ ap is_load (sym (fits.station o))),
-      fits.done x o row load done,
-    )
+feeds_changed f g fits (Some o) x (row, load, done) = (
+  fits.row x ∙ (row ∙ ap (λ (s : Station). Some s.row) (sym (fits.station o))),
+  fits.load x ∙ (load ∙ ap is_load (sym (fits.station o))),
+  fits.done x o row load done,
+)
 
 all_changed : (f : Row → Row) (g : Source → Source) → Fits f g → (older : List Row) (ps : List Place) (xs : List Source) → FeedAll older ps xs → FeedAll (map f older) ps (map g xs)
 all_changed f g fits older [] [] h = tt
 all_changed f g fits older [] (x ∷ xs) (none, h) = (fits.row x ∙ none, all_changed f g fits older [] xs h)
 all_changed f g fits older (p ∷ ps) [] h = absurd h
-all_changed f g fits older (p ∷ ps) (x ∷ xs) (one, h) =
-    (
-      subst_producer (producer (map f older) p) (option_map f (producer older p)) (producer_changed f fits.station older p) (feeds_changed f g fits (producer older p) x one),
-      all_changed f g fits older ps xs h,
-    )
+all_changed f g fits older (p ∷ ps) (x ∷ xs) (one, h) = (
+  subst_producer (producer (map f older) p) (option_map f (producer older p)) (producer_changed f fits.station older p) (feeds_changed f g fits (producer older p) x one),
+  all_changed f g fits older ps xs h,
+)
   where
     subst_producer : (a b : Option Row) → a ≡ b → Feeds b (g x) → Feeds a (g x)
     subst_producer a b e h = rw e h
@@ -389,11 +387,10 @@ retire_shows n (s ∷ zs) = ap (λ l. shown s ∷ l) (retire_shows n zs)
 pub retire_links : (n m : ℕ) (zs : List Slot) (x : Slot) → x.station.row ≡ n → falls_below m (map shown (zs ++ x ∷ [])) ≡ true
     → AreLinked (zs ++ x ∷ []) → AreLinked (map (slot_after (event.Retired n)) zs)
 retire_links n m [] x is falls h = tt
-retire_links n m (s ∷ older) x is falls (l, h) =
-    (
-      subst_rows (map shown (map (slot_after (event.Retired n)) older)) (map shown older) (retire_shows n older) released,
-      retire_links n s.station.row older x is (and_right _ _ falls) h,
-    )
+retire_links n m (s ∷ older) x is falls (l, h) = (
+  subst_rows (map shown (map (slot_after (event.Retired n)) older)) (map shown older) (retire_shows n older) released,
+  retire_links n s.station.row older x is (and_right _ _ falls) h,
+)
   where
     rows_are : map shown (older ++ x ∷ []) ≡ map shown older ++ shown x ∷ []
     rows_are = map-append shown older (x ∷ [])

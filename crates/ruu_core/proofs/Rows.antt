@@ -261,6 +261,10 @@ named_reverse None n (x ∷ xs) h = absurd (nonempty (rows_of xs) (shown x) (ap 
 pub named_row : (last : Option ℕ) (n : ℕ) (xs : List Slot) → rises_to last (rows_of xs) ≡ true → find (is_row n) (rows_of xs) ≡ option_map shown (find (slot_named n) xs)
 named_row last n xs h = find-shown n (reverse xs) ∙ ap (option_map shown) (named_reverse last n xs h)
 
+pub live_shown : (n : ℕ) (zs : List Slot) → list_any (slot_named n) zs ≡ list_any (is_row n) (map shown zs)
+live_shown n [] = refl
+live_shown n (s ∷ zs) = ap (λ b. (s.station.row == n) || b) (live_shown n zs)
+
 any-last : (n : ℕ) (rs : List Row) (r : Row) → list_any (is_row n) (rs ++ r ∷ []) ≡ (is_row n r || list_any (is_row n) rs)
 any-last n [] r = refl
 any-last n (x ∷ rs) r = ap (λ b. is_row n x || b) (any-last n rs r) ∙ swap (is_row n x) (is_row n r) (list_any (is_row n) rs)

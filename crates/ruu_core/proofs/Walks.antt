@@ -9,7 +9,7 @@ use Rattle.pisa_isa.specs.declared.places.Place.{Place}
 use Rattle.ruu_core.specs.declared.slot.Slot.{Slot}
 use Rattle.ruu_core.specs.declared.slot.Source.{Source}
 use Rattle.ruu_core.specs.Window.{same_place}
-use Rattle.ruu_core.specs.Slots.{up_to, source_of, source_behind}
+use Rattle.ruu_core.specs.Slots.{up_to, source_of, source_behind, slot_named}
 
 -- ---- the items up to a place
 
@@ -112,3 +112,8 @@ step_each f start before after i new inside e g is =
     let (x, at) = there f start i inside in
     let at_before : slice_get before i ≡ Some x = ap (λ l. slice_get l i) e ∙ at in
     is ∙ (ap (λ y. slice_set before i y) (g x at_before) ∙ (ap (λ l. slice_set l i (f x)) e ∙ one_changed f start i x at))
+
+pub named_next : (n i : ℕ) (old new : Bool) (xs : List Slot) (x : Slot) → slice_get xs i ≡ Some x → old ≡ list_any (slot_named n) (reverse (take i xs))
+    → new ≡ (slot_named n x || old) → new ≡ list_any (slot_named n) (reverse (take (i + 1) xs))
+named_next n i old new xs x e h is =
+    is ∙ (ap (λ b. slot_named n x || b) h ∙ sym (ap (list_any (slot_named n)) (one_more xs i x e)))

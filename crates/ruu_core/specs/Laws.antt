@@ -34,3 +34,9 @@ pub record StaysProduced (w : Window) (r : Row) (c : ℕ) : Type 0 where
   pub done : is_before c (finished r) ≡ true
   pub by : (older : List Row) (p : Place) → has_produced (is_by c) (producer (older ++ r ∷ []) p) ≡ has_produced (is_by c) (producer older p)
   pub before : (older : List Row) (p : Place) → has_produced (is_before c) (producer (older ++ r ∷ []) p) ≡ has_produced (is_before c) (producer older p)
+
+-- what calls say of a row by its number is said of the row where it stands
+pub record StandsAt (younger older : List Row) (r : Row) (w : Window) : Type 0 where
+  pub row : row_of r.station.row w.rows ≡ Some r
+  pub answers : (test : List Row → Row → Bool) → passes test r.station.row w.rows ≡ test older r
+  pub change : (f : Row → Row) → (at_row r.station.row f w).rows ≡ younger ++ f r ∷ older

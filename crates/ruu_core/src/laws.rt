@@ -1,8 +1,8 @@
 //! What follows from the definitions, each law as the contract of a function that does nothing.
-ghost use Rattle.std.specs.Prelude.{◌≡◌, ℕ, ◌≤◌, Bool, true, [], List, Some, None, Option, is_none, not};
+ghost use Rattle.std.specs.Prelude.{◌≡◌, ℕ, ◌≤◌, Bool, true, [], ◌∷◌, ◌++◌, List, Some, None, Option, is_none, not};
 ghost use Rattle.ruu_core.specs.declared.station.Station.{Station};
 ghost use Rattle.ruu_core.specs.Window.{Row, Window, rises_to, completes, first, finished, is_above, is_store, writes, retired};
-ghost use Rattle.ruu_core.specs.Laws.{AnswersTheLeast, IssuesOnce, LeavesOlder, CompletesThere, StaysProduced};
+ghost use Rattle.ruu_core.specs.Laws.{AnswersTheLeast, IssuesOnce, LeavesOlder, CompletesThere, StaysProduced, StandsAt};
 
 /// Of two rows that pass, the older is answered first, and a row is answered wherever one passes.
 pub fn the_oldest_row_is_answered()
@@ -36,4 +36,10 @@ pub fn retired_producers_are_done()
 /// No store writes a place, so a producer is no store.
 pub fn stores_produce_nothing()
     ensures { (s : Station) → is_store s ≡ true → writes s ≡ [] }
+{}
+
+/// What calls say of a row by its number, they say of the row where it stands among the live ones.
+pub fn numbers_name_rows()
+    ensures { (younger older : List Row) (r : Row) (w : Window) → w.rows ≡ younger ++ r ∷ older
+        → rises_to w.last w.rows ≡ true → StandsAt younger older r w }
 {}

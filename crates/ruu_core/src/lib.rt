@@ -12,11 +12,13 @@ mod ring;
 mod search;
 mod slot;
 mod station;
+#[cfg(test)]
+mod tests;
 mod unit;
 
 pub use laws::{
-    completions_are_where_they_are_said, retired_producers_are_done, rows_issue_once,
-    squashes_leave_older_rows, stores_produce_nothing, the_oldest_row_is_answered,
+    completions_are_where_they_are_said, numbers_name_rows, retired_producers_are_done,
+    rows_issue_once, squashes_leave_older_rows, stores_produce_nothing, the_oldest_row_is_answered,
 };
 pub use station::Station;
 pub use unit::Ruu;

@@ -1,12 +1,11 @@
 //! Walks over the ring, from the oldest slot to the newest.
-ghost use Rattle.std.specs.Prelude.{◌≡◌, ◌<◌, ◌≤◌, length, find, map, take, reverse, slice_get, slice_set, Some, IsTrue, option_copied};
+ghost use Rattle.std.specs.Prelude.{◌≡◌, ◌<◌, ◌≤◌, length, find, map, take, reverse, slice_get, slice_set, Some, IsTrue, option_copied, if◌then◌else◌};
 ghost use Rattle.std.specs.List.{list_any};
 ghost use Rattle.circular_buffer.specs.Buffer.{buffer};
 ghost use Rattle.ruu_core.specs.declared.slot.Slot.{Slot};
-ghost use Rattle.ruu_core.specs.Slots.{least_of, source_behind, source_for, sources_behind, slot_after, slot_named, up_to};
+ghost use Rattle.ruu_core.specs.Window.{same_place};
+ghost use Rattle.ruu_core.specs.Slots.{least_of, source_of, source_behind, source_for, sources_behind, slot_after, slot_named, up_to};
 
-#[cfg(test)]
-use crate::search::either;
 use crate::search::Search;
 use crate::slot::{Event, Slot, Source};
 use circular_buffer::HeapCircularBuffer;
@@ -50,16 +49,25 @@ pub fn named(slots: &HeapCircularBuffer<Slot>, row: u64) -> &Slot
     unreachable!()
 }
 
+/// What a reader of the place behind the slot waits for, where behind those before it is `older`.
+fn source_behind(older: Source, slot: &Slot, place: Place) -> Source
+    ensures { result ≡ (if list_any (λ w. same_place w place) slot.now.writes.items
+        then source_of slot.now else older) }
+{
+    if slot.writes_place(place) {
+        slot.source()
+    } else {
+        older
+    }
+}
+
 /// What a reader of the place behind all slots waits for.
 fn source(slots: &HeapCircularBuffer<Slot>, place: Place) -> Source
     ensures { result ≡ source_behind place (reverse slots.now.items) }
 {
     let mut source = Source::NONE;
     for at in 0..slots.len() {
-        let slot = slot_at(slots, at);
-        if slot.writes_place(place) {
-            source = slot.source();
-        }
+        source = source_behind(source, slot_at(slots, at), place);
     }
     source
 }
@@ -116,16 +124,4 @@ pub fn note(slots: &mut HeapCircularBuffer<Slot>, event: &Event)
     for at in 0..slots.len() {
         note_at(slots, at, event);
     }
-}
-
-/// Whether the row is live.
-#[cfg(test)]
-pub fn is_live(slots: &HeapCircularBuffer<Slot>, row: u64) -> bool
-    ensures { result ≡ list_any (slot_named row) (reverse slots.now.items) }
-{
-    let mut live = false;
-    for at in 0..slots.len() {
-        live = either(slot_at(slots, at).station.row == row, live);
-    }
-    live
 }

@@ -41,7 +41,11 @@ fn may_access(slot: &Slot, cycle: u64) -> bool
     ensures { result ≡ slot_passes (Search.Access cycle) slot.now }
 {
     let fed = are_fed(&slot.second, cycle);
-    let written = all_of(slot.station.is_load(), is_by(cycle, slot.written), slot.accessed.is_none());
+    let written = all_of(
+        slot.station.is_load(),
+        is_by(cycle, slot.written),
+        slot.accessed.is_none(),
+    );
     written && fed
 }
 

@@ -1,7 +1,7 @@
 //! A slot of the ring: a row with its marks, and with what it waits for.
-ghost use Rattle.std.specs.Prelude.{◌≡◌, ◌&&◌, ◌||◌, not, is_none, map, nat_lt, Some};
+ghost use Rattle.std.specs.Prelude.{◌≡◌, ◌&&◌, ◌||◌, not, is_none, map, nat_lt};
 ghost use Rattle.std.specs.List.{list_any};
-ghost use Rattle.ruu_core.specs.Window.{is_at, is_by, is_before, same_place, finished, may_retire};
+ghost use Rattle.ruu_core.specs.Window.{is_at, is_by, is_before, same_place, finished};
 ghost use Rattle.ruu_core.specs.Slots.{shown, source_of, no_source, is_fed, are_fed, source_after, sources_after, marked, slot_after};
 
 use crate::station::Station;
@@ -152,19 +152,13 @@ impl Slot {
         !self.station.wrong && is_before(cycle, self.finished())
     }
 
-    /// Whether it is right, and the cycle is set at which it is finished.
-    #[cfg(test)]
-    pub fn may_retire(&self) -> bool
-        ensures { result ≡ may_retire (Some (shown self.now)) }
-    {
-        !self.station.wrong && self.finished().is_some()
-    }
-
     /// Whether it writes the place.
     pub fn writes_place(&self, place: Place) -> bool
         ensures { result ≡ list_any (λ w. same_place w place) self.now.writes.items }
     {
-        self.writes.iter().any(|written| same_place(*written, place))
+        self.writes
+            .iter()
+            .any(|written| same_place(*written, place))
     }
 
     /// What a reader of its places waits for.

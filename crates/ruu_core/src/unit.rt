@@ -3,8 +3,6 @@ ghost use Rattle.std.specs.Prelude.{◌≡◌, ◌<◌, ◌↔◌, true, [], Som
 ghost use Rattle.ruu_core.specs.Window.{HasRoom, MayEnter, rises_to, is_above, is_by, is_ready, may_access, completes, is_unissued, second_done, next, least, passes, is_live, row_of, written_of, first, head_of, may_retire, later, empty, dispatched, at_row, issuing, accessing, squashed, dropped_by, retired};
 
 use crate::ring;
-#[cfg(test)]
-use crate::search::is_above;
 use crate::search::Search;
 use crate::slot::{Event, Slot, are_fed};
 use crate::station::Station;
@@ -16,9 +14,9 @@ use std::marker::Model;
 /// The live rows, the oldest first, the last row that was dispatched, and when the retired ones were done.
 #[derive(Drop)]
 pub struct Ruu {
-    slots: HeapCircularBuffer<Slot>,
-    last: Option<u64>,
-    past: Option<u64>,
+    pub(crate) slots: HeapCircularBuffer<Slot>,
+    pub(crate) last: Option<u64>,
+    pub(crate) past: Option<u64>,
 }
 
 impl Model for Ruu {
@@ -224,41 +222,6 @@ impl Ruu {
                 slot.station
             }
             None => unreachable!(),
-        }
-    }
-}
-
-/// What tests ask before they call.
-#[cfg(test)]
-impl Ruu {
-    /// Whether the row is above every row that was dispatched.
-    pub fn rises(&self, row: u64) -> bool
-        ensures { result ≡ is_above self.now.last row }
-    {
-        is_above(self.last, row)
-    }
-
-    /// Whether calls may name the cycle.
-    pub fn is_later(&self, cycle: u64) -> bool
-        ensures { result ≡ is_above self.now.past cycle }
-    {
-        is_above(self.past, cycle)
-    }
-
-    /// Whether the row is live.
-    pub fn is_live(&self, row: u64) -> bool
-        ensures { result ≡ is_live row self.now.rows }
-    {
-        ring::is_live(&self.slots, row)
-    }
-
-    /// Whether the first row may retire.
-    pub fn may_retire(&self) -> bool
-        ensures { result ≡ may_retire (first self.now.rows) }
-    {
-        match self.slots.front() {
-            Some(slot) => slot.may_retire(),
-            None => false,
         }
     }
 }

@@ -1,7 +1,7 @@
 use Rattle.std.proofs.Common.{◌∙◌, ap}
 use Rattle.std.specs.Prelude.{◌||◌}
 use Rattle.lsq_core.proofs.Walks.{held_next, none_held}
-use Rattle.lsq_core.proofs.slots.holds.Goals as goal
+use Rattle.lsq_core.proofs.tests.is_among.Goals as goal
 
 pub loop-at-init : goal.loop-at-init
 loop-at-init c = none_held c.args.store c.args.row
