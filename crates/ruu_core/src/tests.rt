@@ -43,7 +43,7 @@ enum Path {
 use Path::{Inert, Right, Wrong};
 
 /// A call, with its answer where it has one.
-#[derive(Drop)]
+#[derive(Clone, Copy)]
 enum Call {
     Room(bool),
     Empty(bool),
@@ -182,7 +182,7 @@ fn enters(unit: &mut Ruu, row: u64, cycle: u64, path: Path, code: Code) -> bool 
     true
 }
 
-/// The row before, where there is one.
+/// The number before, where there is one.
 fn before(row: u64) -> Option<u64> {
     row.checked_sub(1)
 }
@@ -192,11 +192,15 @@ fn issues(unit: &mut Ruu, row: u64, cycle: u64, done: u64) -> bool {
     if done <= cycle || !is_later(unit, cycle) {
         return false;
     }
-    if unit.next_ready(cycle, before(row)) != Some(row) {
-        return false;
+    match unit.next_ready(cycle, before(row)) {
+        Some(found) => {
+            if found == row {
+                unit.issue(found, cycle, done);
+            }
+            found == row
+        }
+        None => false,
     }
-    unit.issue(row, cycle, done);
-    true
 }
 
 fn reads(unit: &mut Ruu, row: u64, cycle: u64, done: u64) -> bool {
@@ -204,11 +208,15 @@ fn reads(unit: &mut Ruu, row: u64, cycle: u64, done: u64) -> bool {
     if done <= cycle || !is_later(unit, cycle) {
         return false;
     }
-    if unit.next_access(cycle, before(row)) != Some(row) {
-        return false;
+    match unit.next_access(cycle, before(row)) {
+        Some(found) => {
+            if found == row {
+                unit.access(found, cycle, done);
+            }
+            found == row
+        }
+        None => false,
     }
-    unit.access(row, cycle, done);
-    true
 }
 
 fn retires(unit: &mut Ruu, row: u64) -> bool {
@@ -281,128 +289,129 @@ fn a_reader_waits_for_its_producer(rt: HostRuntime) -> Result<(), Fail> {
     Ok(())
 }
 
-/// The calls are those of `tools/machine-walks ruu_core`.
+/// The calls of `tools/machine-walks ruu_core`.
+const WALK: [Call; 116] = [
+    Empty(true),
+    Room(true),
+    Ready(1, None, None),
+    Head(1, None),
+    Squash(3, 0),
+    Unissued(None),
+    Access(2, None, None),
+    Enter(0, 2, Right, Product(8, 8)),
+    Enter(2, 2, Right, Low(8)),
+    Enter(4, 2, Right, Low(9)),
+    Written(4, None),
+    Done(3, None, None),
+    Enter(5, 3, Right, Upper(8)),
+    Issue(0, 3, 4),
+    Squash(2, 2),
+    Issue(2, 4, 7),
+    Enter(6, 4, Right, Low(8)),
+    Written(6, None),
+    Unissued(Some(6)),
+    Enter(7, 5, Inert, Product(8, 0)),
+    Ready(5, Some(7), None),
+    Issue(6, 5, 8),
+    Empty(false),
+    Access(5, Some(6), None),
+    Retire(0),
+    Done(5, Some(6), None),
+    Enter(8, 6, Inert, Product(9, 0)),
+    Issue(7, 8, 9),
+    Done(8, Some(2), Some(6)),
+    Issue(8, 8, 11),
+    Written(8, Some(11)),
+    Squash(2, 3),
+    Enter(9, 8, Right, Low(8)),
+    Named(2),
+    Squash(2, 1),
+    Enter(10, 9, Right, Upper(8)),
+    Head(9, Some(2)),
+    Done(9, Some(2), None),
+    Retire(2),
+    Room(true),
+    Ready(9, None, None),
+    Written(10, None),
+    Enter(12, 9, Right, Upper(9)),
+    Data(10, 9, true),
+    Enter(14, 9, Right, Sum(8, 8, 8)),
+    Enter(16, 9, Right, Stores(8, 0)),
+    Data(16, 9, false),
+    Done(9, None, None),
+    Written(16, None),
+    Written(16, None),
+    Empty(false),
+    Empty(false),
+    Written(16, None),
+    Head(12, None),
+    Done(12, Some(12), None),
+    Issue(10, 13, 14),
+    Unissued(Some(12)),
+    Squash(10, 3),
+    Enter(18, 13, Right, Sum(8, 8, 8)),
+    Access(13, None, None),
+    Issue(18, 14, 15),
+    Enter(19, 14, Right, Upper(9)),
+    Named(18),
+    Issue(19, 15, 16),
+    Done(15, Some(18), None),
+    Enter(20, 16, Right, Loads(9, 9)),
+    Retire(10),
+    Done(16, None, Some(19)),
+    Retire(18),
+    Enter(21, 16, Right, Upper(8)),
+    Enter(22, 16, Inert, Stores(8, 0)),
+    Issue(20, 17, 18),
+    Retire(19),
+    Issue(21, 17, 18),
+    Enter(23, 18, Inert, Stores(9, 9)),
+    Room(false),
+    Named(23),
+    Read(20, 19, 20),
+    Ready(19, None, Some(22)),
+    Access(19, Some(21), None),
+    Issue(22, 19, 22),
+    Issue(23, 20, 21),
+    Written(23, Some(21)),
+    Squash(20, 3),
+    Access(20, Some(20), None),
+    Enter(24, 20, Right, Product(9, 8)),
+    Access(20, Some(24), None),
+    Enter(26, 20, Right, Upper(9)),
+    Named(20),
+    Data(26, 21, true),
+    Issue(24, 21, 24),
+    Enter(27, 21, Right, Stores(0, 0)),
+    Retire(20),
+    Issue(26, 21, 24),
+    Squash(24, 2),
+    Written(24, Some(24)),
+    Enter(28, 24, Right, Sum(9, 0, 8)),
+    Ready(24, Some(24), None),
+    Squash(24, 1),
+    Enter(29, 24, Wrong, Upper(9)),
+    Enter(30, 24, Inert, Product(9, 8)),
+    Enter(31, 24, Inert, Low(8)),
+    Head(24, None),
+    Access(24, None, None),
+    Room(false),
+    Issue(29, 25, 26),
+    Retire(24),
+    Done(25, Some(29), None),
+    Enter(33, 25, Inert, Low(9)),
+    Unissued(Some(30)),
+    Ready(25, Some(31), None),
+    Named(31),
+    Access(28, Some(33), None),
+    Issue(30, 28, 29),
+    Issue(31, 28, 29),
+    Access(28, Some(30), None),
+];
+
 #[test]
 fn a_walk_of_calls_agrees(rt: HostRuntime) -> Result<(), Fail> {
-    let walk = [
-        Empty(true),
-        Room(true),
-        Ready(1, None, None),
-        Head(1, None),
-        Squash(3, 0),
-        Unissued(None),
-        Access(2, None, None),
-        Enter(0, 2, Right, Product(8, 8)),
-        Enter(2, 2, Right, Low(8)),
-        Enter(4, 2, Right, Low(9)),
-        Written(4, None),
-        Done(3, None, None),
-        Enter(5, 3, Right, Upper(8)),
-        Issue(0, 3, 4),
-        Squash(2, 2),
-        Issue(2, 4, 7),
-        Enter(6, 4, Right, Low(8)),
-        Written(6, None),
-        Unissued(Some(6)),
-        Enter(7, 5, Inert, Product(8, 0)),
-        Ready(5, Some(7), None),
-        Issue(6, 5, 8),
-        Empty(false),
-        Access(5, Some(6), None),
-        Retire(0),
-        Done(5, Some(6), None),
-        Enter(8, 6, Inert, Product(9, 0)),
-        Issue(7, 8, 9),
-        Done(8, Some(2), Some(6)),
-        Issue(8, 8, 11),
-        Written(8, Some(11)),
-        Squash(2, 3),
-        Enter(9, 8, Right, Low(8)),
-        Named(2),
-        Squash(2, 1),
-        Enter(10, 9, Right, Upper(8)),
-        Head(9, Some(2)),
-        Done(9, Some(2), None),
-        Retire(2),
-        Room(true),
-        Ready(9, None, None),
-        Written(10, None),
-        Enter(12, 9, Right, Upper(9)),
-        Data(10, 9, true),
-        Enter(14, 9, Right, Sum(8, 8, 8)),
-        Enter(16, 9, Right, Stores(8, 0)),
-        Data(16, 9, false),
-        Done(9, None, None),
-        Written(16, None),
-        Written(16, None),
-        Empty(false),
-        Empty(false),
-        Written(16, None),
-        Head(12, None),
-        Done(12, Some(12), None),
-        Issue(10, 13, 14),
-        Unissued(Some(12)),
-        Squash(10, 3),
-        Enter(18, 13, Right, Sum(8, 8, 8)),
-        Access(13, None, None),
-        Issue(18, 14, 15),
-        Enter(19, 14, Right, Upper(9)),
-        Named(18),
-        Issue(19, 15, 16),
-        Done(15, Some(18), None),
-        Enter(20, 16, Right, Loads(9, 9)),
-        Retire(10),
-        Done(16, None, Some(19)),
-        Retire(18),
-        Enter(21, 16, Right, Upper(8)),
-        Enter(22, 16, Inert, Stores(8, 0)),
-        Issue(20, 17, 18),
-        Retire(19),
-        Issue(21, 17, 18),
-        Enter(23, 18, Inert, Stores(9, 9)),
-        Room(false),
-        Named(23),
-        Read(20, 19, 20),
-        Ready(19, None, Some(22)),
-        Access(19, Some(21), None),
-        Issue(22, 19, 22),
-        Issue(23, 20, 21),
-        Written(23, Some(21)),
-        Squash(20, 3),
-        Access(20, Some(20), None),
-        Enter(24, 20, Right, Product(9, 8)),
-        Access(20, Some(24), None),
-        Enter(26, 20, Right, Upper(9)),
-        Named(20),
-        Data(26, 21, true),
-        Issue(24, 21, 24),
-        Enter(27, 21, Right, Stores(0, 0)),
-        Retire(20),
-        Issue(26, 21, 24),
-        Squash(24, 2),
-        Written(24, Some(24)),
-        Enter(28, 24, Right, Sum(9, 0, 8)),
-        Ready(24, Some(24), None),
-        Squash(24, 1),
-        Enter(29, 24, Wrong, Upper(9)),
-        Enter(30, 24, Inert, Product(9, 8)),
-        Enter(31, 24, Inert, Low(8)),
-        Head(24, None),
-        Access(24, None, None),
-        Room(false),
-        Issue(29, 25, 26),
-        Retire(24),
-        Done(25, Some(29), None),
-        Enter(33, 25, Inert, Low(9)),
-        Unissued(Some(30)),
-        Ready(25, Some(31), None),
-        Named(31),
-        Access(28, Some(33), None),
-        Issue(30, 28, 29),
-        Issue(31, 28, 29),
-        Access(28, Some(30), None),
-    ];
-    let agreed = agrees(Ruu::new(rt.alloc(), 4)?, &walk);
+    let agreed = agrees(Ruu::new(rt.alloc(), 4)?, &WALK);
     assert!(rt; agreed);
     Ok(())
 }
