@@ -81,6 +81,10 @@ ran trace n s commits = ran_for trace (step_limit s n) s commits
 
 -- ---- runs that are recorded
 
+-- the bytes of a trace
+unfoldable pub trace_text : Trace → List ℕ
+trace_text t = trace_bytes t
+
 -- a run whose trace is full ends as at its budget
 abbrev pub recorded_end : Trace × Bool → ℕ → State → RunEnd
 recorded_end made n s = if made.1 then ends.Limit else end_of made.0 n s
@@ -88,7 +92,7 @@ recorded_end made n s = if made.1 then ends.Limit else end_of made.0 n s
 -- up to n steps whose calls made a trace: the file is made empty; the run over that trace writes its output;
 -- then the trace goes to the file
 abbrev pub recorded_for : Trace × Bool → ℕ → State → List ℕ → Outcome Answer
-recorded_for made n s out = ran_to made.0 (recorded_end made n s) n s (Append out (trace_bytes made.0) ∷ run_journal None (items_of made.0 n s) ++ Start out ∷ [])
+recorded_for made n s out = ran_to made.0 (recorded_end made n s) n s (Append out (trace_text made.0) ∷ run_journal None (items_of made.0 n s) ++ Start out ∷ [])
 
 -- the trace that a world makes of up to n steps of a program of a byte order, and whether it was full
 abbrev pub trace_made : WorldState → Bool → ℕ → State → Trace × Bool

@@ -3,7 +3,6 @@ use Rattle.std.specs.Prelude.{◌≡◌, ◌≤◌, ℕ, Bool, true, false, List
 use Rattle.ecoff_load.specs.declared.image.Image.{Image}
 use Rattle.pisa_step.specs.declared.cause.Cause.TheVariants as cause
 use Rattle.event_trace.specs.declared.trace.Trace.{Trace}
-use Rattle.event_trace.specs.Grammar.{trace_bytes}
 use Rattle.event_trace.specs.Reading.{checked}
 use Rattle.event_trace.specs.World.{WorldState}
 use Rattle.sim_safe.specs.declared.observer.RunEnd.TheVariants as ends
@@ -16,7 +15,7 @@ use Rattle.journal.specs.Write.{output_of, report_of}
 use Rattle.journal.specs.Outcome.{Outcome}
 use Rattle.answers.specs.declared.answer.Answer.{Answer}
 use Rattle.answers.specs.declared.answer.Answer.TheVariants as answer
-use Rattle.run_commands.specs.Outcome.{JudgesRecording, SimSafeOutcome, ran, recorded, ran_report, step_limit, trace_limit, trace_made}
+use Rattle.run_commands.specs.Outcome.{JudgesRecording, SimSafeOutcome, ran, recorded, ran_report, step_limit, trace_limit, trace_made, trace_text}
 
 -- how a replay ends: as its recording did, with the same report; where the trace was full, the recording
 -- ended at its budget, and the replay stops after the same steps, which both reports count, since its next
@@ -35,9 +34,9 @@ made_by image world max_inst args = trace_made world image.text.big (step_limit 
 -- with the same object, arguments and limit and with any commit file, does the run over it, which is the
 -- recorded run: the same steps from the same state, so the same records and output
 pub record IsReplayed (out : List ℕ) (max_inst : ℕ) (object : List ℕ) (args : List (List ℕ)) (program : List ℕ) (image : Image) (world : WorldState) (made : Trace × Bool) : Type 0 where
-  pub size : length (trace_bytes made.0) ≤ trace_limit
-  pub reads : checked (trace_bytes made.0) ≡ Ok made.0
-  pub replayed : (commits : Option (List ℕ)) → SimSafeOutcome commits (Some out) max_inst object args (found.Whole program ∷ found.Whole (trace_bytes made.0) ∷ []) (ran made.0 max_inst (start_state image args) commits)
+  pub size : length (trace_text made.0) ≤ trace_limit
+  pub reads : checked (trace_text made.0) ≡ Ok made.0
+  pub replayed : (commits : Option (List ℕ)) → SimSafeOutcome commits (Some out) max_inst object args (found.Whole program ∷ found.Whole (trace_text made.0) ∷ []) (ran made.0 max_inst (start_state image args) commits)
   pub output : (commits : Option (List ℕ)) → output_of (ran made.0 max_inst (start_state image args) commits).writes ≡ output_of (recorded world image.text.big max_inst (start_state image args) out).writes
   pub ends : (commits : Option (List ℕ)) → EndsAgain made.1 made.0 (step_limit (start_state image args) max_inst) (start_state image args)
       (recorded world image.text.big max_inst (start_state image args) out) (ran made.0 max_inst (start_state image args) commits)

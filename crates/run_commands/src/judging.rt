@@ -31,11 +31,7 @@ fn judge_given(alloc: Global, calls: Option<Bytes>, big: bool) -> Result<Trace, 
 }
 
 /// Judges an object, and then the trace beside it, if there is one.
-pub fn judge_program(
-    alloc: Global,
-    object: &[u8],
-    calls: Option<Bytes>,
-) -> Result<Program, Refusal>
+pub fn judge_program(alloc: Global, object: &[u8], calls: Option<Bytes>) -> Result<Program, Refusal>
     ensures judged { JudgesProgram object.now calls result }
     ensures program { IfOk result CanRun }
 {

@@ -3,7 +3,7 @@ ghost use Rattle.std.specs.Prelude.{◌≡◌, ◌+◌, ◌^◌, ◌≤◌, ◌�
 ghost use Rattle.std.specs.Option.{option_copied};
 ghost use Rattle.ecoff_load.specs.Object.{IsImage};
 ghost use Rattle.ecoff_load.specs.Start.{block};
-ghost use Rattle.event_trace.specs.Grammar.{IsTrace, trace_bytes};
+ghost use Rattle.event_trace.specs.Grammar.{IsTrace};
 ghost use Rattle.event_trace.specs.Recorder.{next_count};
 ghost use Rattle.event_trace.specs.World.{files_of};
 ghost use Rattle.sim_safe.specs.State.{state_of};
@@ -13,7 +13,7 @@ ghost use Rattle.sim_watch.specs.Watch.{run_journal};
 ghost use Rattle.journal.specs.Write.{Append};
 ghost use Rattle.journal.specs.View.{Writes};
 ghost use Rattle.journal.specs.Outcome.{Comes, Ends};
-ghost use Rattle.run_commands.specs.Outcome.{input_limit, named_input, opened_inputs, ran_to, recorded_end};
+ghost use Rattle.run_commands.specs.Outcome.{input_limit, named_input, opened_inputs, ran_to, recorded_end, trace_text};
 ghost use Rattle.run_commands.specs.Parts.{names_in, record_inputs_of, RecordingOutcomeOf, ObjectRecords, GivenRecords, LoadedRecords, made_for, recorded_of, run_end};
 
 use crate::opening::{INPUT_LIMIT, Opened, find_each};
@@ -47,7 +47,7 @@ fn append_trace<O: Outside>(
     outside: &mut O,
 ) -> Result<(), Fault>
     ensures valid { IsTrace recorder.now.trace }
-    ensures writes { Writes O.view outside.old (Append out.now (trace_bytes recorder.now.trace) ∷ []) outside.new result }
+    ensures writes { Writes O.view outside.old (Append out.now (trace_text recorder.now.trace) ∷ []) outside.new result }
 {
     match write(alloc, recorder.trace()) {
         Ok(bytes) => outside.append(out, bytes.as_slice()),
@@ -69,7 +69,7 @@ fn record_from<O: Outside>(
     requires rising { next_count 0 recorder.trace.records ≤ arch.icnt }
     ensures valid { OnOk result (IsTrace (made_of recorder n (state_of arch)).0) }
     ensures ends { let made = made_of recorder n (state_of arch) in
-        Ends O.view outside.old (ran_to made.0 (recorded_end made n (state_of arch)) n (state_of arch) (Append out.now (trace_bytes made.0) ∷ run_journal None (items_of made.0 n (state_of arch)))) outside.new result }
+        Ends O.view outside.old (ran_to made.0 (recorded_end made n (state_of arch)) n (state_of arch) (Append out.now (trace_text made.0) ∷ run_journal None (items_of made.0 n (state_of arch)))) outside.new result }
 {
     let run = match watched_record(alloc, &mut arch, &mut recorder, n, outside) {
         Ok(run) => run,
