@@ -1,7 +1,7 @@
 -- The commit text: a line for each instruction that is done; and the output of a run.
 use Rattle.std.specs.Prelude.{◌≡◌, ◌++◌, ℕ, List, [], ◌∷◌, length, Option, Some, None, codes, decimal}
 use Rattle.std.specs.List.{flat_map}
-use Rattle.std.proofs.Common.{sym, ◌∙◌, append_assoc, append-nil}
+use Rattle.std.proofs.Common.{refl, sym, ◌∙◌, append_assoc, append-nil}
 use Rattle.ss_base.specs.Text.{hex8, hex_bytes}
 use Rattle.pisa_isa.specs.Texts.{name_of}
 use Rattle.pisa_step.specs.declared.changes.MemWrite.{MemWrite}
@@ -31,6 +31,34 @@ emitted_from (Some note) by = emitted_by note.kind by
 
 abbrev pub output_of : Item → List ℕ
 output_of i = emitted_from i.did.call i.by
+
+-- the blocks of these bytes, in their order: each is put out by itself
+abbrev pub blocks_by : CallKind → Option Record → List Block
+blocks_by kind.Plain by = []
+blocks_by kind.Exit by = []
+blocks_by kind.Emit None = []
+blocks_by kind.Emit (Some r) = r.in_blocks
+
+abbrev pub blocks_from : Option CallNote → Option Record → List Block
+blocks_from None by = []
+blocks_from (Some note) by = blocks_by note.kind by
+
+abbrev pub blocks_of : Item → List Block
+blocks_of i = blocks_from i.did.call i.by
+
+bytes_by : (k : CallKind) (by : Option Record) → flat_map block_bytes (blocks_by k by) ≡ emitted_by k by
+bytes_by kind.Plain by = refl
+bytes_by kind.Exit by = refl
+bytes_by kind.Emit None = refl
+bytes_by kind.Emit (Some r) = refl
+
+bytes_from : (note : Option CallNote) (by : Option Record) → flat_map block_bytes (blocks_from note by) ≡ emitted_from note by
+bytes_from None by = refl
+bytes_from (Some note) by = bytes_by note.kind by
+
+-- the output is the bytes of the blocks, joined
+pub output_joined : (i : Item) → flat_map block_bytes (blocks_of i) ≡ output_of i
+output_joined i = bytes_from i.did.call i.by
 
 -- ---- lines
 

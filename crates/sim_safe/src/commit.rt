@@ -4,7 +4,7 @@ ghost use Rattle.std.specs.List.{flat_map};
 ghost use Rattle.ss_base.specs.Text.{hex8};
 ghost use Rattle.ss_base.specs.Outside.{BeginsWith};
 ghost use Rattle.sim_safe.specs.Record.{IsRunTrace, call_by, item_of};
-ghost use Rattle.sim_safe.specs.Commit.{line_of, head_of, writes_text, regs_text, hi_text, lo_text, write_text, store_text, block_text, blocks_text, call_text, kind_text, block_bytes, output_of};
+ghost use Rattle.sim_safe.specs.Commit.{line_of, head_of, writes_text, regs_text, hi_text, lo_text, write_text, store_text, block_text, blocks_text, call_text, kind_text, block_bytes, blocks_of, output_of};
 
 use crate::record::{CallNote, CommitRecord};
 use event_trace::{Block, CallKind, Record, Trace};
@@ -29,7 +29,8 @@ fn recorded<'a>(call: &Option<CallNote>, trace: &'a Trace) -> Option<&'a Record>
 /// The blocks whose bytes an instruction emits: the input blocks of a call of kind `Emit`, and none
 /// for every other instruction.
 pub fn emitted<'a>(r: &CommitRecord, trace: &'a Trace) -> &'a [Block]
-    ensures { flat_map block_bytes result.now ≡ output_of (item_of trace.now r.now) }
+    ensures blocks { result.now ≡ blocks_of (item_of trace.now r.now) }
+    ensures bytes { flat_map block_bytes result.now ≡ output_of (item_of trace.now r.now) }
 {
     let Some(note) = &r.call else {
         return &[];

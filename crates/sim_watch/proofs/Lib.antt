@@ -1,7 +1,6 @@
-mod Texts
 mod Steps
 mod Countable
 mod Totals
-mod Whole
-mod Cuts
+mod Items
+mod Runs
 mod Recordings

@@ -1,4 +1,4 @@
--- The steps of a run that were done, and all but the last of them.
+-- The steps of a run that were done.
 use Rattle.std.specs.Prelude.{◌≡◌, ◌+◌, ◌-◌, ◌++◌, ℕ, zero, suc, List, [], ◌∷◌, length}
 use Rattle.std.proofs.Common.{refl, ap, ◌∙◌, arith}
 use Rattle.event_trace.specs.declared.trace.Trace.{Trace}
@@ -6,9 +6,7 @@ use Rattle.sim_safe.specs.State.{State}
 use Rattle.sim_safe.specs.Step.{Outcome, Next, Halt, step_of}
 use Rattle.sim_safe.specs.Laws.{StepKeeps}
 use Rattle.sim_safe.specs.Record.{Item, item_of}
-use Rattle.sim_safe.specs.Commit.{onto}
 use Rattle.sim_safe.specs.Run.{items_more, items_of, after_more, after}
-use Rattle.sim_watch.specs.Watch.{earlier}
 
 -- the law that each step that is done counts one instruction
 abbrev pub StepsKeep : Type 0
@@ -28,9 +26,6 @@ after_count law trace zero s = omega arith
 after_count law trace (suc n) s = count_more trace n s (step_of trace s) (law trace s) (λ t. after_count law trace n t)
 
 -- steps that lead to a state are as many as it has counted
-pub steps_done : StepsKeep → (trace : Trace) (done : ℕ) (s t : State) → t ≡ after trace done s → done ≡ t.icnt - s.icnt → length (items_of trace done s) ≡ done
-steps_done law trace done s t e d = let k : t.icnt ≡ (after trace done s).icnt = ap (λ x. x.icnt) e in omega (arith, after_count law trace done s, k, d)
-
 pub steps_counted : StepsKeep → (trace : Trace) (done : ℕ) (s t : State) → t ≡ after trace done s → done ≡ t.icnt - s.icnt → t.icnt ≡ s.icnt + done
 steps_counted law trace done s t e d = let k : t.icnt ≡ (after trace done s).icnt = ap (λ x. x.icnt) e in omega (arith, after_count law trace done s, k, d)
 
@@ -64,39 +59,3 @@ stops_at trace zero zero s e = (refl, refl)
 stops_at trace zero (suc d) s e = absurd (omega (arith, e))
 stops_at trace (suc n) zero s e = stops_more trace n zero s (step_of trace s) e (λ k t h. stops_at trace n k t h)
 stops_at trace (suc n) (suc d) s e = stops_more trace n (suc d) s (step_of trace s) e (λ k t h. stops_at trace n k t h)
-
--- ---- the last step
-
-last_more : (trace : Trace) (k : ℕ) (o : Outcome) → length (items_more trace (items_of trace (suc k)) o) ≡ suc (suc k)
-    → ((t : State) → length (items_of trace (suc k) t) ≡ suc k → (i : Item) × (items_of trace (suc k) t ≡ items_of trace k t ++ i ∷ []))
-    → (i : Item) × (items_more trace (items_of trace (suc k)) o ≡ items_more trace (items_of trace k) o ++ i ∷ [])
-last_more trace k (Next r t) e f =
-    let l : (i : Item) × (items_of trace (suc k) t ≡ items_of trace k t ++ i ∷ []) = f t (omega (arith, e)) in
-    (l.0, ap (λ x. item_of trace r ∷ x) l.1)
-last_more trace k (Halt why) e f = absurd (omega (arith, e))
-
-last_one : (trace : Trace) (o : Outcome) → length (items_more trace (items_of trace zero) o) ≡ suc zero → (i : Item) × (items_more trace (items_of trace zero) o ≡ i ∷ [])
-unfolding items_of
-last_one trace (Next r t) e = (item_of trace r, refl)
-last_one trace (Halt why) e = absurd (omega (arith, e))
-
-last_item : (trace : Trace) (k : ℕ) (s : State) → length (items_of trace (suc k) s) ≡ suc k → (i : Item) × (items_of trace (suc k) s ≡ items_of trace k s ++ i ∷ [])
-unfolding items_of
-last_item trace zero s e = last_one trace (step_of trace s) e
-last_item trace (suc k) s e = last_more trace k (step_of trace s) e (λ t l. last_item trace k t l)
-
-onto_append : (xs ys h : List Item) → onto (xs ++ ys) h ≡ onto ys (onto xs h)
-onto_append [] ys h = refl
-onto_append (x ∷ xs) ys h = onto_append xs ys (x ∷ h)
-
-earlier_of : (is part : List Item) (i : Item) → is ≡ part ++ i ∷ [] → earlier (onto is []) ≡ onto part []
-earlier_of is part i e = ap (λ x. earlier (onto x [])) e ∙ ap earlier (onto_append part (i ∷ []) [])
-
--- what was there before the newest of some steps are the steps but one
-pub earlier_steps : (trace : Trace) (done : ℕ) (s : State) → length (items_of trace done s) ≡ done → earlier (onto (items_of trace done s) []) ≡ onto (items_of trace (done - 1) s) []
-unfolding items_of
-earlier_steps trace zero s e = refl
-earlier_steps trace (suc k) s e =
-    let l = last_item trace k s e in
-    let z : suc k - 1 ≡ k = omega arith in
-    rw z (earlier_of (items_of trace (suc k) s) (items_of trace k s) l.0 l.1)

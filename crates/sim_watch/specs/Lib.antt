@@ -1,6 +1,4 @@
-pub mod Gets
-pub mod Watch
 pub mod Statistics
+pub mod Watch
 pub mod Run
 pub mod Recorded
-pub mod Parts

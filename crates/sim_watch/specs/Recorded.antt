@@ -1,19 +1,19 @@
--- What a run that is watched and recorded writes, counts and answers.
-use Rattle.std.specs.Prelude.{◌≡◌, ◌≤◌, ◌+◌, ◌-◌, ℕ, List, Bool, true, false, Result, Ok, Err}
+-- What a run that is watched and recorded comes to.
+use Rattle.std.specs.Prelude.{◌≡◌, ◌≤◌, ◌+◌, ℕ, Bool, true, false, [], None, Result, Ok, Err}
 use Rattle.event_trace.specs.declared.trace.Trace.{Trace}
 use Rattle.event_trace.specs.Recorder.{RecorderState}
+use Rattle.journal.specs.declared.fault.Fault.{Fault}
+use Rattle.journal.specs.View.{View}
 use Rattle.sim_safe.specs.declared.observer.RunEnd.{RunEnd}
 use Rattle.sim_safe.specs.declared.recording.RecordEnd.{RecordEnd}
 use Rattle.sim_safe.specs.declared.recording.RecordEnd.TheVariants as ends
 use Rattle.sim_safe.specs.State.{State}
 use Rattle.sim_safe.specs.Laws.{StopsForRecord}
-use Rattle.sim_safe.specs.Recording.{recording, serve}
-use Rattle.sim_safe.specs.Commit.{outputs_of}
+use Rattle.sim_safe.specs.Recording.{RecordsFront, recording, serve}
+use Rattle.sim_safe.specs.Commit.{onto}
 use Rattle.sim_safe.specs.Run.{items_of, after, end_of}
-use Rattle.sim_watch.specs.declared.watch.WatchFault.{WatchFault}
 use Rattle.sim_watch.specs.declared.recording.Recorded.{Recorded}
-use Rattle.sim_watch.specs.Watch.{SinkFaulted}
-use Rattle.sim_watch.specs.Run.{OutputCut}
+use Rattle.sim_watch.specs.Run.{CutInRun}
 use Rattle.sim_watch.specs.Statistics.{statistics_of}
 
 -- the trace that up to n steps make of what was recorded before them, and whether it is full
@@ -38,25 +38,17 @@ pub record RunRecorded (old : RecorderState) (n : ℕ) (s : State) (new : Record
   pub state : t ≡ after new.trace n s
   pub statistics : r.statistics ≡ statistics_of (items_of new.trace n s)
 
--- after a fault the state is that after some of the steps
-abbrev pub RecordEnds : RecorderState → ℕ → State → RecorderState → State → Result Recorded WatchFault → Type 0
-RecordEnds old n s new t (Ok r) = RunRecorded old n s new t r
-RecordEnds old n s new t (Err f) = (done : ℕ) × (done ≤ n) × (t ≡ after (made_of old n s).0 done s)
-
--- the stream's count of faults: only a fault of the stream raised it, and there is none of a shelf
-abbrev pub OutputCounts : {T : Type 0} → ℕ → ℕ → Result T WatchFault → Type 0
-OutputCounts before now (Ok x) = now ≡ before
-OutputCounts before now (Err f) = SinkFaulted before now f
-
--- a recorded run that was given up did some steps of the run over its whole trace: the state is that after
--- them and counts each, and the stream got the output of all but the last of them and a front of the last one's
-pub record RecordingGivenUp {P : Type 0} (tells : P → Type 0) (contents : P → List ℕ) (p q : P) (whole : Trace) (n : ℕ) (s t : State) : Type 0 where
+-- a recorded run that was given up did some of the steps, over the trace that is left: the state is that
+-- after them and counts each, they and that trace are a front of the whole recording, the one without a
+-- fault, and what was written was cut at the last of them
+pub record RecordingGivenUp {O : Type 0} (v : View O) (a : O) (old : RecorderState) (n : ℕ) (s : State) (new : RecorderState) (t : State) (b : O) (f : Fault) : Type 0 where
   pub done : ℕ
   pub most : done ≤ n
-  pub state : t ≡ after whole done s
-  pub output : tells p → OutputCut (contents p) (outputs_of (items_of whole (done - 1) s)) (outputs_of (items_of whole done s)) (contents q)
+  pub state : t ≡ after new.trace done s
   pub count : t.icnt ≡ s.icnt + done
+  pub front : RecordsFront (made_of old n s).0 new.trace n done s t
+  pub at : CutInRun v None a (onto (items_of new.trace done s) []) f b
 
-abbrev pub RecordGivenUp : {P : Type 0} (tells : P → Type 0) (contents : P → List ℕ) → P → P → RecorderState → ℕ → State → State → Result Recorded WatchFault → Type 0
-RecordGivenUp tells contents p q old n s t (Ok r) = Unit {0}
-RecordGivenUp tells contents p q old n s t (Err f) = RecordingGivenUp tells contents p q (made_of old n s).0 n s t
+abbrev pub RecordEnds : {O : Type 0} → View O → O → RecorderState → ℕ → State → RecorderState → State → O → Result Recorded Fault → Type 0
+RecordEnds v a old n s new t b (Ok r) = RunRecorded old n s new t r
+RecordEnds v a old n s new t b (Err f) = RecordingGivenUp v a old n s new t b f

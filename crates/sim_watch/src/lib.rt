@@ -1,5 +1,7 @@
-//! Runs whose commit text goes to a file and whose output goes to a stream, and runs whose calls are
-//! recorded while their output goes to a stream.
+//! Runs whose commit text goes to a file and whose output goes to the first stream, and runs whose
+//! calls are recorded while their output goes there. What they write is a journal, which is one
+//! recursion over the items of the run: each piece of text and each block of output stands in it in
+//! the order of the run, and after a fault nothing behind the write that failed is done.
 #![tactic(auto)]
 
 mod recording;
@@ -10,4 +12,4 @@ mod watch;
 
 pub use recording::{Recorded, watched_record};
 pub use run::{Watched, watched_run};
-pub use watch::{TextWatch, WatchFault};
+pub use watch::TextWatch;

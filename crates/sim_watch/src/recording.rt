@@ -1,19 +1,17 @@
 //! A run whose calls are recorded, and whose output is written.
-ghost use Rattle.std.specs.Prelude.{◌≡◌, ◌+◌, ◌^◌, ◌≤◌};
+ghost use Rattle.std.specs.Prelude.{◌≡◌, ◌+◌, ◌^◌, ◌≤◌, [], None};
 ghost use Rattle.std.specs.Option.{option_copied};
 ghost use Rattle.event_trace.specs.Recorder.{next_count};
 ghost use Rattle.sim_safe.specs.State.{state_of};
-ghost use Rattle.sim_safe.specs.Commit.{outputs_of};
 ghost use Rattle.sim_safe.specs.Run.{items_of};
 ghost use Rattle.sim_safe.specs.Statistics.{no_statistics};
-ghost use Rattle.sim_watch.specs.Run.{RunOutput, RunCounts};
-ghost use Rattle.sim_watch.specs.Parts.{SinkRuns};
-ghost use Rattle.sim_watch.specs.Recorded.{made_of, RecordEnds, RecordGivenUp, OutputCounts};
+ghost use Rattle.sim_watch.specs.Watch.{WritesOrCut, run_journal};
+ghost use Rattle.sim_watch.specs.Recorded.{made_of, RecordEnds};
 
-use crate::watch::{TextWatch, WatchFault};
+use crate::watch::TextWatch;
 use event_trace::Recorder;
+use journal::{Fault, Outside};
 use sim_safe::{Arch, RecordEnd, RunFault, Statistics, steps_keep};
-use ss_base::{MemShelf, Shelf, Sink};
 use std::alloc::Global;
 
 /// What a recorded run came to.
@@ -25,22 +23,22 @@ pub struct Recorded {
     pub statistics: Statistics,
 }
 
-/// Does up to `n` steps under a watch, while their calls are recorded.
-fn observe_recording<H: Shelf, P: Sink>(
+/// Does up to `n` steps under a watch that has no file, while their calls are recorded.
+fn observe_recording<O: Outside>(
     alloc: Global,
     arch: &mut Arch,
     recorder: &mut Recorder,
     n: u64,
-    watch: &mut TextWatch<'_, '_, '_, '_, '_, H, P>,
-) -> Result<Recorded, WatchFault>
+    watch: &mut TextWatch<'_, '_, '_, '_, O>,
+) -> Result<Recorded, Fault>
     requires count { arch.old.icnt + n ≤ 10 ^ 15 }
     requires rising { next_count 0 recorder.old.trace.records ≤ arch.old.icnt }
+    requires file { option_copied watch.old.file.now ≡ None }
+    requires pending { watch.old.pending.now.items ≡ [] }
     requires statistics { watch.old.statistics ≡ no_statistics }
-    ensures prog_same { watch.new.prog.ghost_name ≡ watch.old.prog.ghost_name }
-    ensures prog { SinkRuns P.tells P.contents P.faults watch.old.prog.now watch.new.prog.now (outputs_of (items_of (made_of recorder.old n (state_of arch.old)).0 n (state_of arch.old))) result }
-    ensures counts { RunCounts (H.calm watch.old.shelf.now) (option_copied watch.old.file.now) (H.faults watch.old.shelf.now, P.faults watch.old.prog.now) (H.faults watch.new.shelf.now, P.faults watch.new.prog.now) result }
-    ensures ends { RecordEnds recorder.old n (state_of arch.old) recorder.new (state_of arch.new) result }
-    ensures given_up { RecordGivenUp P.tells P.contents watch.old.prog.now watch.new.prog.now recorder.old n (state_of arch.old) (state_of arch.new) result }
+    ensures same { watch.new.outside.ghost_name ≡ watch.old.outside.ghost_name }
+    ensures writes { WritesOrCut O.view watch.old.outside.now (run_journal None (items_of (made_of recorder.old n (state_of arch.old)).0 n (state_of arch.old))) watch.new.outside.now result }
+    ensures ends { RecordEnds O.view watch.old.outside.now recorder.old n (state_of arch.old) recorder.new (state_of arch.new) watch.new.outside.now result }
 {
     // each step that is done counts one instruction
     steps_keep();
@@ -50,34 +48,37 @@ fn observe_recording<H: Shelf, P: Sink>(
             statistics: watch.statistics,
         }),
         Err(RunFault::Watch(fault)) => Err(watch.fault.unwrap_or(fault)),
-        Err(RunFault::OutOfMemory) => Err(WatchFault::OutOfMemory),
+        Err(RunFault::OutOfMemory) => Err(Fault::OutOfMemory),
     }
 }
 
-/// The same over parts that stand apart, where no file is named.
-#[tactic(auto, using(crate::proofs::Recordings::output_counts))]
-fn observe_recording_parts<H: Shelf, P: Sink>(
+/// Does up to `n` steps, each call of which finds its record in the trace of `recorder` or is
+/// answered by its world and recorded. The first stream gets what the program emits, block by block.
+///
+/// What was done is the run over the trace that it leaves; where that is full, the run ends before
+/// the call that found no room.
+///
+/// After a fault there is one number of steps that were done over the trace that is left: `arch` is
+/// as they leave it, and all writes of all but the last of them were done. They and that trace are a
+/// front of the whole recording, the one without a fault.
+pub fn watched_record<O: Outside>(
     alloc: Global,
-    pending: &mut Vec<u8>,
     arch: &mut Arch,
     recorder: &mut Recorder,
     n: u64,
-    shelf: &mut H,
-    prog: &mut P,
-) -> Result<Recorded, WatchFault>
+    outside: &mut O,
+) -> Result<Recorded, Fault>
     requires count { arch.old.icnt + n ≤ 10 ^ 15 }
     requires rising { next_count 0 recorder.old.trace.records ≤ arch.old.icnt }
-    ensures prog { SinkRuns P.tells P.contents P.faults prog.old prog.new (outputs_of (items_of (made_of recorder.old n (state_of arch.old)).0 n (state_of arch.old))) result }
-    ensures counts { OutputCounts (P.faults prog.old) (P.faults prog.new) result }
-    ensures ends { RecordEnds recorder.old n (state_of arch.old) recorder.new (state_of arch.new) result }
-    ensures given_up { RecordGivenUp P.tells P.contents prog.old prog.new recorder.old n (state_of arch.old) (state_of arch.new) result }
+    ensures writes { WritesOrCut O.view outside.old (run_journal None (items_of (made_of recorder.old n (state_of arch.old)).0 n (state_of arch.old))) outside.new result }
+    ensures ends { RecordEnds O.view outside.old recorder.old n (state_of arch.old) recorder.new (state_of arch.new) outside.new result }
 {
-    let file = None;
+    // without a file nothing is ever pending
+    let mut pending = Vec::new(alloc);
     let mut watch = TextWatch {
-        shelf,
-        file: &file,
-        prog,
-        pending,
+        outside,
+        file: &None,
+        pending: &mut pending,
         statistics: Statistics::none(),
         fault: None,
     };
@@ -85,38 +86,4 @@ fn observe_recording_parts<H: Shelf, P: Sink>(
         Ok(recorded) => Ok(recorded),
         Err(fault) => Err(fault),
     }
-}
-
-/// Does up to `n` steps, each call of which finds its record in the trace of `recorder` or is
-/// answered by its world and recorded. `prog` gets what the program emits, call by call.
-///
-/// What was done is the run over the trace that it leaves; where that is full, the run ends before
-/// the call that found no room.
-///
-/// After a fault there is one number of steps of the whole recording, the one without a fault, that
-/// were done: `arch` is as they leave it, and `prog` got the output of all but the last of them and
-/// a front of the last one's.
-#[tactic(auto, using(crate::proofs::Recordings::output_written, crate::proofs::Recordings::output_telling))]
-pub fn watched_record<P: Sink>(
-    alloc: Global,
-    arch: &mut Arch,
-    recorder: &mut Recorder,
-    n: u64,
-    prog: &mut P,
-) -> Result<Recorded, WatchFault>
-    requires count { arch.old.icnt + n ≤ 10 ^ 15 }
-    requires rising { next_count 0 recorder.old.trace.records ≤ arch.old.icnt }
-    // what is written
-    ensures output { P.tells prog.old → RunOutput (P.contents prog.old) (outputs_of (items_of (made_of recorder.old n (state_of arch.old)).0 n (state_of arch.old))) (P.contents prog.new) result }
-    ensures ends { RecordEnds recorder.old n (state_of arch.old) recorder.new (state_of arch.new) result }
-    ensures given_up { RecordGivenUp P.tells P.contents prog.old prog.new recorder.old n (state_of arch.old) (state_of arch.new) result }
-
-    // what holds whatever is told
-    ensures counts { OutputCounts (P.faults prog.old) (P.faults prog.new) result }
-    ensures telling { P.tells prog.old → P.tells prog.new }
-{
-    // no file is named, so the shelf is never called
-    let mut shelf = MemShelf::new(alloc);
-    let mut pending = Vec::new(alloc);
-    observe_recording_parts(alloc, &mut pending, arch, recorder, n, &mut shelf, prog)
 }

@@ -1,16 +1,14 @@
-use Rattle.sim_watch.proofs.Texts.{emit_front, put_front, put_none}
+use Rattle.journal.specs.Laws.{wrote_none}
+use Rattle.sim_watch.proofs.Items.{put_next, put_cut}
 use Rattle.sim_watch.proofs.watch.emit.Goals as goal
 
-pub returns-in-Err-Failed : goal.returns-in-Err-Failed
-returns-in-Err-Failed g c = (
-  emit_front g.P.Sink.tells g.P.Sink.contents g.P.Sink.faults c.args.prog.now c.loop-block.prog c.put.new.self c.args.blocks.now c.loop-block.block-index c.block-item.result c.loop-block-test.true c.block-item.is c.loop-block.invariant
-      (put_front g.P.Sink.tells g.P.Sink.contents c.loop-block.prog c.put.new.self c.as_slice.result.now c.block-item.result.bytes c.as_slice.ensures c.put.ensures.telling (rw c.in-Err-Failed.field-0-is at c.in-Err-Failed.ensures.contents)),
-  rw c.loop-block.invariant.count at (rw c.in-Err-Failed.field-0-is at c.in-Err-Failed.ensures.count),
-)
+pub loop-block-init : goal.loop-block-init
+loop-block-init g c = wrote_none g.O.Outside.view c.args.outside.now
 
-pub returns-in-Err-OutOfMemory : goal.returns-in-Err-OutOfMemory
-returns-in-Err-OutOfMemory g c = (
-  emit_front g.P.Sink.tells g.P.Sink.contents g.P.Sink.faults c.args.prog.now c.loop-block.prog c.put.new.self c.args.blocks.now c.loop-block.block-index c.block-item.result c.loop-block-test.true c.block-item.is c.loop-block.invariant
-      (put_none g.P.Sink.tells g.P.Sink.contents c.loop-block.prog c.put.new.self c.block-item.result.bytes c.put.ensures.telling (rw c.in-Err-OutOfMemory.field-0-is at c.in-Err-OutOfMemory.ensures.contents)),
-  rw c.loop-block.invariant.count at (rw c.in-Err-OutOfMemory.field-0-is at c.in-Err-OutOfMemory.ensures.count),
-)
+pub loop-block-preserved : goal.loop-block-preserved
+loop-block-preserved g c =
+    put_next g.O.Outside.view c.args.outside.now c.loop-block.outside c.put_output.new.self c.args.blocks.now c.loop-block.block-index c.block-item.result c.as_slice.result.now c.loop-block-test.true c.block-item.is c.as_slice.ensures c.loop-block.invariant c.in-Ok.ensures
+
+pub returns-in-Err : goal.returns-in-Err
+returns-in-Err g c =
+    put_cut g.O.Outside.view c.args.outside.now c.loop-block.outside c.put_output.new.self c.args.blocks.now c.loop-block.block-index c.block-item.result c.as_slice.result.now c.in-Err.fault c.loop-block-test.true c.block-item.is c.as_slice.ensures c.loop-block.invariant c.in-Err.ensures
