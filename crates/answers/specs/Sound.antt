@@ -1,10 +1,9 @@
--- What holds of every outcome of a command, whatever it does.
+-- What holds of the answer of every command, beside what it writes.
 use Rattle.std.specs.Prelude.{◌≡◌, ◌≢◌, ℕ, List, [], map, Contains}
 use Rattle.journal.specs.declared.fault.Fault.TheVariants as fault
 use Rattle.journal.specs.Write.{Journal, Lacks}
 use Rattle.journal.specs.Load.{Input}
 use Rattle.journal.specs.Outcome.{Outcome}
-use Rattle.journal.specs.Texts.{StartsFiles, ReportsLast}
 use Rattle.answers.specs.declared.answer.Answer.{Answer}
 use Rattle.answers.specs.declared.answer.Answer.TheVariants as answer
 use Rattle.answers.specs.declared.answer.Unbuilt.TheVariants as unbuilt
@@ -37,11 +36,8 @@ NamesLong names answer.Budget = Unit {0}
 abbrev pub names_of : List Input → List (List ℕ)
 names_of inputs = map (λ i. i.name) inputs
 
--- an outcome of a command over these files: it makes a file empty before it adds to it, and no file twice; it
--- reports only at its end; it is quiet, names only its own files, and is built
+-- an outcome of a command that loads these files is quiet, names none but its own files, and is built
 pub record IsSound (inputs : List Input) (o : Outcome Answer) : Type 0 where
-  pub starts : StartsFiles o.writes
-  pub last : ReportsLast o.writes
   pub quiet : IsQuiet o.ending o.writes
   pub names : NamesLong (names_of inputs) o.ending
   pub built : o.ending ≢ answer.NotBuilt unbuilt.Words

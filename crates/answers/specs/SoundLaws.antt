@@ -19,7 +19,6 @@ use Rattle.journal.specs.declared.fault.Fault.TheVariants as fault
 use Rattle.journal.specs.Write.{Journal, Report, Lacks}
 use Rattle.journal.specs.Load.{Input}
 use Rattle.journal.specs.Outcome.{Outcome}
-use Rattle.journal.specs.Texts.{StartsFiles, ReportsLast}
 use Rattle.answers.specs.declared.answer.Answer.{Answer}
 use Rattle.answers.specs.declared.answer.Answer.TheVariants as answer
 use Rattle.answers.specs.declared.answer.Unbuilt.TheVariants as unbuilt
@@ -43,7 +42,7 @@ Refuses names (answer.Stopped why pc icnt) = ⊥
 Refuses names answer.Budget = ⊥
 
 refused_with : (inputs : List Input) (a : Answer) → ((line : List ℕ) → IsQuiet a (Report line ∷ [])) → NamesLong (names_of inputs) a → (a ≡ answer.NotBuilt unbuilt.Words → ⊥) → IsSound inputs (refused a)
-refused_with inputs a quiet names built = record { starts = (tt, tt); last = tt; quiet = quiet (fault_line a); names = names; built = built }
+refused_with inputs a quiet names built = record { quiet = quiet (fault_line a); names = names; built = built }
 
 pub refused_sound : (inputs : List Input) (a : Answer) → Refuses (names_of inputs) a → IsSound inputs (refused a)
 refused_sound inputs (answer.TooLong name) r = refused_with inputs (answer.TooLong name) (λ line. (λ e. cc, tt)) r (λ e. cc)
@@ -58,14 +57,14 @@ refused_sound inputs answer.Budget r = absurd r
 
 -- ---- what was made, and runs
 
-pub made_sound : (inputs : List Input) (h : Journal) → StartsFiles h → ReportsLast h → Lacks fault.Stat h → IsSound inputs (answered answer.Made h)
-made_sound inputs h starts last quiet = record { starts = starts; last = last; quiet = quiet; names = tt; built = λ e. cc }
+pub made_sound : (inputs : List Input) (h : Journal) → Lacks fault.Stat h → IsSound inputs (answered answer.Made h)
+made_sound inputs h quiet = record { quiet = quiet; names = tt; built = λ e. cc }
 
 -- the answer of a run is none of a refusal
-pub run_sound : (inputs : List Input) (end : RunEnd) (pc icnt : ℕ) (h : Journal) → StartsFiles h → ReportsLast h → IsSound inputs (answered (run_answer end pc icnt) h)
-run_sound inputs ends.Limit pc icnt h starts last = record { starts = starts; last = last; quiet = tt; names = tt; built = λ e. cc }
-run_sound inputs (ends.Stop (cause.Exited code)) pc icnt h starts last = record { starts = starts; last = last; quiet = tt; names = tt; built = λ e. cc }
-run_sound inputs (ends.Stop _) pc icnt h starts last = record { starts = starts; last = last; quiet = tt; names = tt; built = λ e. cc }
+pub run_sound : (inputs : List Input) (end : RunEnd) (pc icnt : ℕ) (h : Journal) → IsSound inputs (answered (run_answer end pc icnt) h)
+run_sound inputs ends.Limit pc icnt h = record { quiet = tt; names = tt; built = λ e. cc }
+run_sound inputs (ends.Stop (cause.Exited code)) pc icnt h = record { quiet = tt; names = tt; built = λ e. cc }
+run_sound inputs (ends.Stop _) pc icnt h = record { quiet = tt; names = tt; built = λ e. cc }
 
 -- ---- a fact of every outcome of a chain
 
