@@ -1,22 +1,24 @@
 -- Laws of chains of judgements.
-use Rattle.std.proofs.Common.{◌≡◌, ℕ, Bool, List, [], ◌∷◌, Option, Some, None, Result, Ok, Err, refl, sym, ap, ◌∙◌, subst, ⊎_elim, inl, inr}
+use Rattle.std.proofs.Common.{◌≡◌, ◌≢◌, ◌⊎◌, ◌<◌, ◌-◌, ◌++◌, ℕ, zero, suc, Bool, true, false, List, [], ◌∷◌, length, get_or, Option, Some, None, Result, Ok, Err, refl, sym, ap, ◌∙◌, subst, ⊎_elim, inl, inr, arith}
+use Rattle.std.specs.Prelude.{map, String, Vec, slice_index}
 use Rattle.ecoff_load.specs.declared.fault.Refusal.{Refusal as Misfit}
 use Rattle.ecoff_load.specs.declared.image.Image.{Image}
 use Rattle.ecoff_load.specs.Object.{IsObject}
 use Rattle.ecoff_load.specs.Checks.{refusal}
+use Rattle.ecoff_load.proofs.Described.{image_of}
 use Rattle.ecoff_load.proofs.Exact.{read_as, is_only}
 use Rattle.event_trace.specs.declared.fault.TraceFault.{TraceFault}
 use Rattle.event_trace.specs.declared.fault.TraceFault.TheVariants as trace_fault
 use Rattle.event_trace.specs.declared.trace.Trace.{Trace}
 use Rattle.event_trace.specs.Grammar.{absent_trace}
-use Rattle.event_trace.specs.Reading.{checked}
-use Rattle.event_trace.specs.World.{File}
+use Rattle.event_trace.specs.declared.fault.TraceWhy.TheVariants as why
+use Rattle.event_trace.specs.Reading.{checked, placed, trace_at, Refusal as Stop}
+use Rattle.event_trace.specs.World.{File, files_of}
 use Rattle.journal.specs.declared.fault.Fault.{Fault}
-use Rattle.journal.specs.declared.fault.Fault.TheVariants as fault
 use Rattle.journal.specs.declared.loading.Found.{Found}
 use Rattle.journal.specs.declared.loading.Found.TheVariants as found
-use Rattle.journal.specs.View.{View, Wrote}
-use Rattle.journal.specs.Load.{Input}
+use Rattle.journal.specs.View.{View}
+use Rattle.journal.specs.Load.{Input, found_of, name_of, IsFirstLong}
 use Rattle.journal.specs.Outcome.{Outcome, Comes}
 use Rattle.journal.specs.Loading.{comes_now, comes_wanting}
 use Rattle.answers.specs.declared.answer.Answer.{Answer}
@@ -24,7 +26,7 @@ use Rattle.answers.specs.declared.answer.Answer.TheVariants as answer
 use Rattle.answers.specs.declared.refusal.Refusal.{Refusal}
 use Rattle.answers.specs.declared.refusal.Refusal.TheVariants as refusals
 use Rattle.answers.specs.Answer.{refused}
-use Rattle.answers.specs.Judging.{LoadsFile, LoadsNamed, LoadsEach, JudgesObject, JudgesOrder, JudgesRead, JudgesTrace, JudgesGiven, IsTraceOf, IsGiven, RefusesBy, Refuses}
+use Rattle.answers.specs.Judging.{order_place, LoadsFile, LoadsNamed, LoadsEach, JudgesObject, JudgesOrder, JudgesRead, JudgesTrace, JudgesGiven, IsTraceOf, IsGiven, RefusesBy, Refuses}
 
 -- ---- what comes next may be said otherwise
 
@@ -86,6 +88,29 @@ pub given_judged : (calls : Option (List ℕ)) (big : Bool) (o : Outcome Answer)
 given_judged None big o N trace e x = subst N e x
 given_judged (Some bytes) big o N trace e x = trace_judged bytes big o N trace e x
 
+-- ---- files that were loaded one after the other
+
+-- all of them, with their names
+pub each_loaded : {A B : Type 0} (files : List (String A × Vec ℕ B)) (names : List (List ℕ)) (rest : List Found) (o : Outcome Answer) (N : List File → List Found → Type 0)
+    → map name_of files ≡ names → N (files_of files) rest → LoadsEach names (map found_of files ++ rest) o N
+each_loaded [] [] rest o N e x = x
+each_loaded [] (name ∷ names) rest o N e x = cc
+each_loaded (f ∷ files) [] rest o N e x = cc
+each_loaded (f ∷ files) (name ∷ names) rest o N e x =
+    let first : name_of f ≡ name = cc in
+    let M : List File → List Found → Type 0 = λ opened others. N (record { name = name; bytes = f.1.items } ∷ opened) others in
+    each_loaded files names rest o M (cc) (subst (λ (n : List ℕ). N (record { name = n; bytes = f.1.items } ∷ files_of files) rest) first x)
+
+-- or a file that is too long, after others
+pub each_long : (names : List (List ℕ)) (loaded rest : List Found) (k : ℕ) (N : List File → List Found → Type 0)
+    → IsFirstLong loaded k → k < length names → LoadsEach names (loaded ++ rest) (refused (answer.TooLong (get_or names k []))) N
+each_long [] loaded rest k N long l = absurd (omega arith)
+each_long (name ∷ names) [] rest k N long l = absurd long
+each_long (name ∷ names) (found.TooLong ∷ fs) rest zero N long l = refl
+each_long (name ∷ names) (found.TooLong ∷ fs) rest (suc k) N long l = absurd long
+each_long (name ∷ names) (found.Whole bytes ∷ fs) rest zero N long l = absurd long
+each_long (name ∷ names) (found.Whole bytes ∷ fs) rest (suc k) N long l = each_long names fs rest k (λ opened others. N (record { name = name; bytes = bytes } ∷ opened) others) long (omega arith)
+
 -- ---- refusals
 
 -- a refusal of which an outcome speaks comes to it, without loading further files
@@ -98,6 +123,54 @@ comes_refused v a inputs b Has refusals.OutOfMemory r has wanting = comes_wantin
 pub refuses_map : (x : Refusal) (N M : Outcome Answer → Type 0) → ((o : Outcome Answer) → N o → M o) → RefusesBy x N → RefusesBy x M
 refuses_map (refusals.Answer a) N M f h = f (refused a) h
 refuses_map refusals.OutOfMemory N M f h = tt
+
+-- ---- whatever is found, there is an outcome
+
+-- what is found are bytes
+abbrev pub AreBytes : List ℕ → Type 0
+AreBytes bytes = (i : ℕ) → slice_index bytes i < 256
+
+abbrev pub FoundBytes : List Found → Type 0
+FoundBytes [] = Unit {0}
+FoundBytes (found.TooLong ∷ fs) = FoundBytes fs
+FoundBytes (found.Whole bytes ∷ fs) = AreBytes bytes × FoundBytes fs
+
+-- there is an outcome of which a fact holds
+abbrev pub SomeOutcome : (Outcome Answer → Type 0) → Type 0
+SomeOutcome Has = (o : Outcome Answer) × Has o
+
+pub file_some : (name : List ℕ) (f : Found) (fs : List Found) (N : Outcome Answer → List ℕ → List Found → Type 0)
+    → FoundBytes (f ∷ fs) → ((bytes : List ℕ) → AreBytes bytes → FoundBytes fs → SomeOutcome (λ o. N o bytes fs)) → SomeOutcome (λ o. LoadsFile name (f ∷ fs) o (N o))
+file_some name found.TooLong fs N h some = (refused (answer.TooLong name), refl)
+file_some name (found.Whole bytes) fs N h some = some bytes h.0 h.1
+
+told_or_not : (told : Option Misfit) → ((bad : Misfit) × (told ≡ Some bad)) ⊎ (told ≡ None)
+told_or_not None = inr refl
+told_or_not (Some bad) = inl (bad, refl)
+
+pub object_some : (bytes : List ℕ) (N : Outcome Answer → Image → Type 0) → AreBytes bytes → ((image : Image) → IsObject bytes image → SomeOutcome (λ o. N o image)) → SomeOutcome (λ o. JudgesObject bytes o (N o))
+object_some bytes N h some = elim (told_or_not (refusal bytes)) as (λ _. SomeOutcome (λ o. JudgesObject bytes o (N o))) [
+  | inl bad ↦ (refused (answer.Object bad.0.at bad.0.why), inl (bad.0, bad.1, refl))
+  | inr good ↦ let read = image_of bytes h good in let s = some read.0 read.1 in (s.0, inr (read.0, read.1, s.1))
+]
+
+same_order : (a b : Bool) → (a ≡ b) ⊎ (a ≢ b)
+same_order true true = inl refl
+same_order true false = inr (λ e. cc)
+same_order false true = inr (λ e. cc)
+same_order false false = inl refl
+
+-- a reading that is complete has an outcome
+read_some : (total : ℕ) (read : Result Trace Stop) (big : Bool) (N : Outcome Answer → Trace → Type 0) → ((t : Trace) → SomeOutcome (λ o. N o t)) → SomeOutcome (λ o. JudgesRead (placed total read) big o (N o))
+read_some total (Err e) big N some = (refused (answer.Trace (total - e.left) e.why), refl)
+read_some total (Ok trace) big N some = elim (same_order trace.big big) as (λ _. SomeOutcome (λ o. JudgesOrder trace big o (N o))) [
+  | inl e ↦ let s = some trace in (s.0, inr (e, s.1))
+  | inr d ↦ (refused (answer.Trace (order_place trace) why.OtherOrder), inl (d, refl))
+]
+
+pub given_some : (calls : Option (List ℕ)) (big : Bool) (N : Outcome Answer → Trace → Type 0) → ((trace : Trace) → SomeOutcome (λ o. N o trace)) → SomeOutcome (λ o. JudgesGiven calls big o (N o))
+given_some None big N some = some absent_trace
+given_some (Some bytes) big N some = read_some (length bytes) (trace_at bytes) big N some
 
 -- ---- of the same files there is at most one outcome
 

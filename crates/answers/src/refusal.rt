@@ -67,11 +67,7 @@ impl From<OutOfMemory> for Refusal {
 
 /// Answers with a refusal: its line goes to the second stream.
 #[tactic(auto, using(journal::specs::Laws::gave_up_none))]
-fn refuse_with<O: Outside>(
-    alloc: Global,
-    answer: Answer,
-    outside: &mut O,
-) -> Result<Answer, Fault>
+fn refuse_with<O: Outside>(alloc: Global, answer: Answer, outside: &mut O) -> Result<Answer, Fault>
     ensures { Ends O.view outside.old (refused answer) outside.new result }
 {
     let mut line = Vec::new(alloc);
@@ -83,11 +79,7 @@ fn refuse_with<O: Outside>(
 
 /// Refuses: the answer's line goes to the second stream. Where memory was wanted, nothing does.
 #[tactic(auto, using(journal::specs::Laws::wrote_none))]
-pub fn refuse<O: Outside>(
-    alloc: Global,
-    refusal: Refusal,
-    outside: &mut O,
-) -> Result<Answer, Fault>
+pub fn refuse<O: Outside>(alloc: Global, refusal: Refusal, outside: &mut O) -> Result<Answer, Fault>
     ensures { Refuses O.view outside.old refusal outside.new result }
 {
     match refusal {

@@ -13,11 +13,7 @@ use ss_base::OutOfMemory;
 use std::alloc::Global;
 
 /// Puts a text on the second stream, and answers.
-pub fn put_answer<O: Outside>(
-    text: &[u8],
-    answer: Answer,
-    outside: &mut O,
-) -> Result<Answer, Fault>
+pub fn put_answer<O: Outside>(text: &[u8], answer: Answer, outside: &mut O) -> Result<Answer, Fault>
     ensures { Ends O.view outside.old (answered answer (Report text.now ∷ [])) outside.new result }
 {
     match outside.put_report(text) {

@@ -1,4 +1,4 @@
--- What follows for callers from what a command comes to, proved once for all commands.
+-- Laws from the one relation of a command to each fact that its callers have.
 use Rattle.std.specs.Prelude.{◌≡◌, ◌≢◌, ◌++◌, ℕ, List, [], ◌∷◌, Some, None, Result, Ok, Err}
 use Rattle.std.proofs.Common.{refl, sym, ap, ◌∙◌, subst, inl, inr, append-nil}
 use Rattle.ss_base.specs.Outside.{Files, SameFiles, bytes_at}
@@ -10,16 +10,20 @@ use Rattle.journal.specs.Write.{Write, Start, Append, Output, Report, Journal, f
 use Rattle.journal.specs.View.{View, counts, Stays, Raised, Wrote, Failed, LeftOut, GaveUp}
 use Rattle.journal.specs.Load.{Input, AreHeld, IsFound, AreFound, GaveUpLoading}
 use Rattle.journal.specs.Outcome.{Outcome, EndsByFound, Comes}
-use Rattle.journal.specs.Texts.{StartsFiles, ReportsLast, IsProper, WholeFiles, FileFronts}
+use Rattle.journal.specs.Texts.{StartsFiles, ReportsLast, WholeFiles, FileFronts}
 use Rattle.journal.specs.Laws.{lacks_earlier}
 use Rattle.journal.specs.Fronts.{whole_files, whole_fronts, part_fronts, fronts_more, starts_earlier, output_part, output_later, report_part, report_later, got_all, no_part}
 use Rattle.journal.specs.Clauses.{answer_in, OutcomeWith, Leaves, LeavesFiles, LeavesOutput, LeavesReport, CameTo, ComesAsFar, EndsBy}
 
--- every outcome of a command is proper
-abbrev pub AreProper : {E : Type 0} → (List Found → Outcome E → Type 0) → Type 0
-AreProper {E} Has = (fs : List Found) (o : Outcome E) → Has fs o → IsProper o.writes
+-- so writes each outcome of a command
+abbrev pub AllStart : {E : Type 0} → (List Found → Outcome E → Type 0) → Type 0
+AllStart {E} Has = (fs : List Found) (o : Outcome E) → Has fs o → StartsFiles o.writes
 
--- ---- what is found where it is told
+-- so does one that reports only at its end
+abbrev pub AllReportLast : {E : Type 0} → (List Found → Outcome E → Type 0) → Type 0
+AllReportLast {E} Has = (fs : List Found) (o : Outcome E) → Has fs o → ReportsLast o.writes
+
+-- ---- files that are told
 
 is_found_told : (Told : Type 0) (files : Files) (i : Input) (f : Found) → Told → IsFound Told files i f → IsFound (Unit {0}) files i f
 is_found_told Told files i (found.Whole bytes) t h = (h.0, λ _. h.1 t)
@@ -31,7 +35,7 @@ are_found_told Told files [] (f ∷ fs) t h = h
 are_found_told Told files (i ∷ is) [] t h = h
 are_found_told Told files (i ∷ is) (f ∷ fs) t h = (is_found_told Told files i f t h.0, are_found_told Told files is fs t h.1)
 
--- ---- one fact of what was written, and one of what was given up
+-- ---- from each arm to its fact
 
 loaded_with : {O E : Type 0} (v : View O) (a b : O) (inputs : List Input) (Has : List Found → Outcome E → Type 0) (r : Result E Fault) (Fact : Outcome E → Type 0)
     → v.tells a → (p : EndsByFound v a inputs Has b r) → Fact p.outcome → OutcomeWith (v.files a) inputs Has Fact
@@ -46,7 +50,7 @@ leaves v a b inputs Has (Err f) Whole Same Front t whole same front (inl p) = in
 leaves v a b inputs Has (Err f) Whole Same Front t whole same front (inr p) =
     inr (loaded_with v a b inputs Has (Err f) Front t p (front p.outcome p.found f p.has p.ends))
 
--- ---- files
+-- ---- what files hold
 
 failed_files : {O : Type 0} (v : View O) (a b : O) (h : Journal) (f : Fault) → v.tells a → StartsFiles h → Failed v a h f b → FileFronts h (v.files a) (v.files b)
 failed_files v a b h f t s q =
@@ -75,14 +79,14 @@ same_loading v a b inputs fault.Stat t q = absurd q
 same_loading v a b inputs fault.OutOfMemory t q = λ name. ap (λ (files : Files). files name) (q.holds.files t)
 
 pub leaves_files : {O E : Type 0} (v : View O) (a b : O) (inputs : List Input) (Has : List Found → Outcome E → Type 0) (r : Result E Fault)
-    → AreProper Has → v.tells a → Comes v a inputs Has b r → LeavesFiles inputs Has (v.files a) (v.files b) (answer_in r)
-leaves_files v a b inputs Has r proper t p =
+    → AllStart Has → v.tells a → Comes v a inputs Has b r → LeavesFiles inputs Has (v.files a) (v.files b) (answer_in r)
+leaves_files v a b inputs Has r starts t p =
     leaves v a b inputs Has r (λ o. WholeFiles o.writes (v.files a) (v.files b)) (SameFiles (v.files a) (v.files b)) (λ o. FileFronts o.writes (v.files a) (v.files b)) t
-    (λ o fs h w. subst (λ x. WholeFiles o.writes (v.files a) x) (sym (w.holds.files t)) (whole_files o.writes (v.files a) (proper fs o h).starts))
+    (λ o fs h w. subst (λ x. WholeFiles o.writes (v.files a) x) (sym (w.holds.files t)) (whole_files o.writes (v.files a) (starts fs o h)))
     (λ f q. same_loading v a b inputs f t q)
-    (λ o fs f h q. gave_up_files v a b o.writes f t (proper fs o h).starts q) p
+    (λ o fs f h q. gave_up_files v a b o.writes f t (starts fs o h) q) p
 
--- ---- streams
+-- ---- what streams hold
 
 prog_loading : {O : Type 0} (v : View O) (a b : O) (inputs : List Input) (f : Fault) → GaveUpLoading v a inputs f b → v.prog.sink b ≡ v.prog.sink a
 prog_loading v a b inputs fault.Shelf q = q.prog
@@ -158,9 +162,9 @@ leaves_report v a b inputs Has r t u p =
     (λ f q. same_report v a b inputs f u q)
     (λ o fs f h q. gave_up_report v a b o.writes f u q) p
 
--- ---- how far it came
+-- ---- one place for all
 
--- a write that wasn't begun was done in part
+-- nothing of a write is a part of it
 no_part_of_files : (w : Write) (old : Files) → PartOfFiles w old old
 no_part_of_files (Start name) old = (λ other d. refl, inl refl)
 no_part_of_files (Append name bytes) old = (λ other d. refl, no_part (bytes_at old name) bytes)
@@ -198,6 +202,16 @@ comes_as_far v a b inputs Has f t u (inl q) = inl (same_loading v a b inputs f t
 comes_as_far v a b inputs Has f t u (inr q) =
     inr (loaded_with v a b inputs Has (Err f) (λ o. CameTo o.writes (v.files a) (v.files b) (v.prog.contents a) (v.prog.contents b)) t q (gave_up_at v a b q.outcome.writes f t u q.ends))
 
+-- at one place of a journal each file has a front of its text, and the first stream a front of the output
+pub came_files : (h : Journal) (old new : Files) (before now : List ℕ) → StartsFiles h → CameTo h old new before now → FileFronts h old new
+came_files h old new before now s q =
+    let starts = subst StartsFiles q.all s in
+    subst (λ l. FileFronts l old new) (sym q.all) (fronts_more q.later (q.next ∷ q.done) old new starts (part_fronts q.next q.done old new (starts_earlier q.later (q.next ∷ q.done) starts) q.files))
+
+pub came_output : (h : Journal) (old new : Files) (before now : List ℕ) → CameTo h old new before now → GotFront before (output_of h) now
+came_output h old new before now q =
+    subst (λ l. GotFront before (output_of l) now) (sym q.all) (output_later q.later (q.next ∷ q.done) before now (output_part q.next q.done before now q.output))
+
 some_is_none : {E : Type 0} (e : E) → Some e ≡ None → ⊥
 some_is_none e h = cc
 
@@ -206,9 +220,9 @@ pub comes_far : {O E : Type 0} (v : View O) (a b : O) (inputs : List Input) (Has
 comes_far v a b inputs Has (Ok e) t u n p = absurd (some_is_none e n)
 comes_far v a b inputs Has (Err f) t u n p = comes_as_far v a b inputs Has f t u p
 
--- ---- the second stream comes last
+-- ---- reports at the end
 
--- what is before the last write has no report
+-- writes before a later one have no report
 last_before : (later : Journal) (next : Write) (done : Journal) → ReportsLast (later ++ next ∷ done) → Lacks fault.Stat done
 last_before [] next done l = l
 last_before (w ∷ later) next done l = (lacks_earlier fault.Stat later (next ∷ done) l).1
@@ -220,23 +234,23 @@ no_report (Append name bytes ∷ h) l = no_report h l.1
 no_report (Output bytes ∷ h) l = no_report h l.1
 no_report (Report bytes ∷ h) l = absurd (l.0 refl)
 
--- want of memory leaves the second stream as it was
+-- so no report is on the second stream where memory ran out
 left_no_report : {O : Type 0} (v : View O) (a b : O) (h : Journal) → v.stat.tells a → ReportsLast h → LeftOut v a h b → v.stat.contents b ≡ v.stat.contents a
 left_no_report v a b h t l q =
     let none = no_report q.done (last_before q.later q.next q.done (subst ReportsLast q.all l)) in
     q.holds.report t ∙ ap (λ x. v.stat.contents a ++ x) none ∙ append-nil (v.stat.contents a)
 
 pub memory : {O E : Type 0} (v : View O) (a b : O) (inputs : List Input) (Has : List Found → Outcome E → Type 0)
-    → AreProper Has → v.stat.tells a → Comes v a inputs Has b (Err fault.OutOfMemory) → v.stat.contents b ≡ v.stat.contents a
-memory v a b inputs Has proper t (inl q) = same_report v a b inputs fault.OutOfMemory t q
-memory v a b inputs Has proper t (inr q) = left_no_report v a b q.outcome.writes t (proper q.found q.outcome q.has).last q.ends
+    → AllReportLast Has → v.stat.tells a → Comes v a inputs Has b (Err fault.OutOfMemory) → v.stat.contents b ≡ v.stat.contents a
+memory v a b inputs Has last t (inl q) = same_report v a b inputs fault.OutOfMemory t q
+memory v a b inputs Has last t (inr q) = left_no_report v a b q.outcome.writes t (last q.found q.outcome q.has) q.ends
 
--- a report that failed was the last write
+-- a report is the newest write
 failed_last : (later : Journal) (next : Write) (done : Journal) → ReportsLast (later ++ next ∷ done) → fault_of next ≡ fault.Stat → later ≡ []
 failed_last [] next done l e = refl
 failed_last (w ∷ later) next done l e = absurd ((lacks_earlier fault.Stat later (next ∷ done) l).0 e)
 
--- a report that failed leaves all other writes done
+-- and where it fails, the others are done
 stat_files : (w : Write) (done : Journal) (old new : Files) → fault_of w ≡ fault.Stat → PartOfFiles w (files_after done old) new → new ≡ files_after (w ∷ done) old
 stat_files (Start name) done old new e p = cc
 stat_files (Append name bytes) done old new e p = cc
@@ -249,32 +263,32 @@ stat_output (Append name bytes) done old new e p = cc
 stat_output (Output bytes) done old new e p = cc
 stat_output (Report bytes) done old new e p = p
 
-stat_failed : {O : Type 0} (v : View O) (a b : O) (h : Journal) → v.tells a → IsProper h → Failed v a h fault.Stat b
+stat_failed : {O : Type 0} (v : View O) (a b : O) (h : Journal) → v.tells a → StartsFiles h → ReportsLast h → Failed v a h fault.Stat b
     → WholeFiles h (v.files a) (v.files b) × (v.prog.tells a → v.prog.contents b ≡ v.prog.contents a ++ output_of h)
-stat_failed v a b h t proper q =
-    let none = failed_last q.later q.next q.done (subst ReportsLast q.all proper.last) (sym q.by) in
+stat_failed v a b h t starts last q =
+    let none = failed_last q.later q.next q.done (subst ReportsLast q.all last) (sym q.by) in
     let whole : h ≡ q.next ∷ q.done = q.all ∙ ap (λ l. l ++ q.next ∷ q.done) none in
     let files : v.files b ≡ files_after h (v.files a) = stat_files q.next q.done (v.files a) (v.files b) (sym q.by) (q.files t) ∙ ap (λ l. files_after l (v.files a)) (sym whole) in (
-      subst (λ x. WholeFiles h (v.files a) x) (sym files) (whole_files h (v.files a) proper.starts),
+      subst (λ x. WholeFiles h (v.files a) x) (sym files) (whole_files h (v.files a) starts),
       λ u. stat_output q.next q.done (v.prog.contents a) (v.prog.contents b) (sym q.by) (q.output u) ∙ ap (λ l. v.prog.contents a ++ output_of l) (sym whole),
     )
 
--- where the second stream failed, all else is written whole
+-- files and the first stream are whole where the second stream failed
 pub last : {O E : Type 0} (v : View O) (a b : O) (inputs : List Input) (Has : List Found → Outcome E → Type 0)
-    → AreProper Has → v.tells a → Comes v a inputs Has b (Err fault.Stat)
+    → AllStart Has → AllReportLast Has → v.tells a → Comes v a inputs Has b (Err fault.Stat)
     → OutcomeWith (v.files a) inputs Has (λ o. WholeFiles o.writes (v.files a) (v.files b) × (v.prog.tells a → v.prog.contents b ≡ v.prog.contents a ++ output_of o.writes))
-last v a b inputs Has proper t (inl q) = absurd q
-last v a b inputs Has proper t (inr q) =
+last v a b inputs Has starts end t (inl q) = absurd q
+last v a b inputs Has starts end t (inr q) =
     loaded_with v a b inputs Has (Err fault.Stat) (λ o. WholeFiles o.writes (v.files a) (v.files b) × (v.prog.tells a → v.prog.contents b ≡ v.prog.contents a ++ output_of o.writes)) t q
-    (stat_failed v a b q.outcome.writes t (proper q.found q.outcome q.has) q.ends)
+    (stat_failed v a b q.outcome.writes t (starts q.found q.outcome q.has) (end q.found q.outcome q.has) q.ends)
 
--- ---- whatever is told
+-- ---- facts that need no telling
 
 pub ends_by : {O E : Type 0} (v : View O) (a b : O) (inputs : List Input) (Has : List Found → Outcome E → Type 0) (e : E)
     → Comes v a inputs Has b (Ok e) → EndsBy (v.tells a) (v.files a) inputs Has e (λ o. (v.prog.tells a → v.prog.contents b ≡ v.prog.contents a ++ output_of o.writes) × (v.stat.tells a → v.stat.contents b ≡ v.stat.contents a ++ report_of o.writes))
 ends_by v a b inputs Has e p = record { found = p.found; are = p.are; outcome = p.outcome; has = p.has; ending = p.ends.0; holds = (p.ends.1.holds.output, p.ends.1.holds.report) }
 
--- the counts of faults
+-- which count of faults is another one
 abbrev pub CountsBy : {E : Type 0} → ℕ × ℕ × ℕ → ℕ × ℕ × ℕ → Result E Fault → Type 0
 CountsBy before now (Ok e) = now ≡ before
 CountsBy before now (Err f) = Raised f before now
@@ -296,7 +310,7 @@ counts_by v a b inputs Has (Ok e) p = p.ends.1.holds.counts
 counts_by v a b inputs Has (Err f) (inl q) = loading_counts v a b inputs f q
 counts_by v a b inputs Has (Err f) (inr q) = gave_up_counts v a b q.outcome.writes f q.ends
 
--- what stays
+-- all that stays
 gave_up_stays : {O : Type 0} (v : View O) (a b : O) (h : Journal) (f : Fault) → GaveUp v a h f b → Stays v a b
 gave_up_stays v a b h fault.Shelf q = q.stays
 gave_up_stays v a b h fault.Prog q = q.stays
@@ -314,26 +328,26 @@ stays v a b inputs Has (Ok e) p = p.ends.1.holds.stays
 stays v a b inputs Has (Err f) (inl q) = loading_stays v a b inputs f q
 stays v a b inputs Has (Err f) (inr q) = gave_up_stays v a b q.outcome.writes f q.ends
 
--- a calm shelf that tells that it holds the files doesn't fail
+-- a calm shelf that holds the files, and tells it, has no fault
 pub succeeds : {O E : Type 0} (v : View O) (a b : O) (inputs : List Input) (Has : List Found → Outcome E → Type 0) → v.calm a → v.tells a → AreHeld (v.files a) inputs → Comes v a inputs Has b (Err fault.Shelf) → ⊥
 succeeds v a b inputs Has k t h (inl q) = q.calm k t h
 succeeds v a b inputs Has k t h (inr q) = q.ends.calm k
 
--- ---- streams that aren't touched
+-- ---- untouched streams
 
--- nothing is put on the second stream after a fault of the shelf or of the first stream
+-- a fault before the report leaves the second stream untouched
 failed_quiet : {O : Type 0} (v : View O) (a b : O) (h : Journal) (f : Fault) → f ≢ fault.Stat → ReportsLast h → Failed v a h f b → v.stat.sink b ≡ v.stat.sink a
 failed_quiet v a b h f d l q = q.untouched.stat (λ e. d (q.by ∙ e), last_before q.later q.next q.done (subst ReportsLast q.all l))
 
 pub quiet : {O E : Type 0} (v : View O) (a b : O) (inputs : List Input) (Has : List Found → Outcome E → Type 0) (f : Fault)
-    → AreProper Has → f ≢ fault.Stat → f ≢ fault.OutOfMemory → Comes v a inputs Has b (Err f) → v.stat.sink b ≡ v.stat.sink a
-quiet v a b inputs Has f proper d e (inl q) = stat_loading v a b inputs f q
-quiet v a b inputs Has fault.Shelf proper d e (inr q) = failed_quiet v a b q.outcome.writes fault.Shelf d (proper q.found q.outcome q.has).last q.ends
-quiet v a b inputs Has fault.Prog proper d e (inr q) = failed_quiet v a b q.outcome.writes fault.Prog d (proper q.found q.outcome q.has).last q.ends
-quiet v a b inputs Has fault.Stat proper d e (inr q) = absurd (d refl)
-quiet v a b inputs Has fault.OutOfMemory proper d e (inr q) = absurd (e refl)
+    → AllReportLast Has → f ≢ fault.Stat → f ≢ fault.OutOfMemory → Comes v a inputs Has b (Err f) → v.stat.sink b ≡ v.stat.sink a
+quiet v a b inputs Has f last d e (inl q) = stat_loading v a b inputs f q
+quiet v a b inputs Has fault.Shelf last d e (inr q) = failed_quiet v a b q.outcome.writes fault.Shelf d (last q.found q.outcome q.has) q.ends
+quiet v a b inputs Has fault.Prog last d e (inr q) = failed_quiet v a b q.outcome.writes fault.Prog d (last q.found q.outcome q.has) q.ends
+quiet v a b inputs Has fault.Stat last d e (inr q) = absurd (d refl)
+quiet v a b inputs Has fault.OutOfMemory last d e (inr q) = absurd (e refl)
 
--- nothing is put on a stream for which the outcome of an answer has nothing
+-- a stream is untouched that gets nothing from any outcome with the answer
 pub quiet_prog : {O E : Type 0} (v : View O) (a b : O) (inputs : List Input) (Has : List Found → Outcome E → Type 0) (e : E)
     → ((fs : List Found) (o : Outcome E) → Has fs o → e ≡ o.ending → Lacks fault.Prog o.writes) → Comes v a inputs Has b (Ok e) → v.prog.sink b ≡ v.prog.sink a
 quiet_prog v a b inputs Has e lacks p = p.ends.1.untouched.prog (lacks p.found p.outcome p.has p.ends.0)
@@ -341,3 +355,14 @@ quiet_prog v a b inputs Has e lacks p = p.ends.1.untouched.prog (lacks p.found p
 pub quiet_stat : {O E : Type 0} (v : View O) (a b : O) (inputs : List Input) (Has : List Found → Outcome E → Type 0) (e : E)
     → ((fs : List Found) (o : Outcome E) → Has fs o → e ≡ o.ending → Lacks fault.Stat o.writes) → Comes v a inputs Has b (Ok e) → v.stat.sink b ≡ v.stat.sink a
 quiet_stat v a b inputs Has e lacks p = p.ends.1.untouched.stat (lacks p.found p.outcome p.has p.ends.0)
+
+-- ---- calm streams
+
+-- a calm stream has no fault
+pub prog_succeeds : {O E : Type 0} (v : View O) (a b : O) (inputs : List Input) (Has : List Found → Outcome E → Type 0) → v.prog.calm a → Comes v a inputs Has b (Err fault.Prog) → ⊥
+prog_succeeds v a b inputs Has k (inl q) = q
+prog_succeeds v a b inputs Has k (inr q) = q.ends.calm k
+
+pub stat_succeeds : {O E : Type 0} (v : View O) (a b : O) (inputs : List Input) (Has : List Found → Outcome E → Type 0) → v.stat.calm a → Comes v a inputs Has b (Err fault.Stat) → ⊥
+stat_succeeds v a b inputs Has k (inl q) = q
+stat_succeeds v a b inputs Has k (inr q) = q.ends.calm k

@@ -1,4 +1,4 @@
--- Laws of journals.
+-- Laws of journals that are written one behind the other.
 use Rattle.std.specs.Prelude.{◌≡◌, ◌++◌, ℕ, List, [], ◌∷◌, Result, Ok, Err}
 use Rattle.std.proofs.Common.{refl, sym, ap, ◌∙◌, subst, append_assoc, append-nil}
 use Rattle.ss_base.specs.Outside.{Files}
@@ -8,7 +8,7 @@ use Rattle.journal.specs.Write.{Write, Start, Append, Output, Report, Journal, L
 use Rattle.journal.specs.Outcome.{Outcome, Ends, behind}
 use Rattle.journal.specs.View.{View, Stays, Holds, Untouched, Wrote, Failed, RanOut, LeftOut, Cut, GaveUp, Raised, IsCalm, counts}
 
--- ---- of what a journal of two parts comes to
+-- ---- two journals as one
 
 pub lacks_later : (f : Fault) (k h : Journal) → Lacks f (k ++ h) → Lacks f k
 lacks_later f [] h l = tt
@@ -36,7 +36,7 @@ report_more (Append name bytes ∷ k) h = report_more k h
 report_more (Output bytes ∷ k) h = report_more k h
 report_more (Report bytes ∷ k) h = ap (λ x. x ++ bytes) (report_more k h) ∙ append_assoc (report_of h) (report_of k) bytes
 
--- ---- of journals that were written
+-- ---- whole journals
 
 pub stays_none : {O : Type 0} (v : View O) (a : O) → Stays v a a
 stays_none v a = record { place = refl; tells = λ t. t; calm = λ t. t; prog = λ t. t; stat = λ t. t; prog_calm = λ t. t; stat_calm = λ t. t }
@@ -68,7 +68,7 @@ holds_none v a = record {
   report = λ t. sym (append-nil (v.stat.contents a));
 }
 
--- what a stream holds after two parts
+-- bytes of one stream, added in two steps
 joined : (x y z p q r : List ℕ) → y ≡ x ++ p → z ≡ y ++ q → r ≡ p ++ q → z ≡ x ++ r
 joined x y z p q r d e f = e ∙ ap (λ l. l ++ q) d ∙ append_assoc x p q ∙ ap (λ l. x ++ l) (sym f)
 
@@ -93,15 +93,15 @@ untouched_more v a b c h k p q = record {
 pub untouched_within : {O : Type 0} (v : View O) (a b : O) (h k : Journal) → Untouched v a h b → Untouched v a (k ++ h) b
 untouched_within v a b h k p = record { prog = λ l. p.prog (lacks_earlier fault.Prog k h l); stat = λ l. p.stat (lacks_earlier fault.Stat k h l) }
 
--- nothing was written
+-- an empty journal is written by doing nothing
 pub wrote_none : {O : Type 0} (v : View O) (a : O) → Wrote v a [] a
 wrote_none v a = record { holds = holds_none v a; untouched = untouched_none v a [] }
 
--- a journal was written, and then another one
+-- two journals that were written are one that was
 pub wrote_more : {O : Type 0} (v : View O) (a b c : O) (h k : Journal) → Wrote v a h b → Wrote v b k c → Wrote v a (k ++ h) c
 wrote_more v a b c h k p q = record { holds = holds_more v a b c h k p.holds q.holds; untouched = untouched_more v a b c h k p.untouched q.untouched }
 
--- ---- of journals that were cut
+-- ---- cut journals
 
 pub raised_more : (f : Fault) (a b c : ℕ × ℕ × ℕ) → b ≡ a → Raised f b c → Raised f a c
 raised_more f a b c e r = subst (λ x. Raised f x c) e r
@@ -134,7 +134,7 @@ ran_out_more v a b c h k p q = record {
   untouched = untouched_more v a b c h k p.untouched q.untouched;
 }
 
--- a journal was written, and then another one was cut
+-- a cut behind a whole journal
 pub cut_more : {O : Type 0} (v : View O) (a b c : O) (h k : Journal) (f : Fault) → Wrote v a h b → Cut v b k f c → Cut v a (k ++ h) f c
 cut_more v a b c h k fault.Shelf p q = failed_more v a b c h k fault.Shelf p q
 cut_more v a b c h k fault.Prog p q = failed_more v a b c h k fault.Prog p q
@@ -166,18 +166,18 @@ ran_out_within v a b h k q = record {
   untouched = untouched_within v a b h k q.untouched;
 }
 
--- what is cut within a journal is cut within a longer one
+-- a cut stays one where further writes were to come
 pub cut_within : {O : Type 0} (v : View O) (a b : O) (h k : Journal) (f : Fault) → Cut v a h f b → Cut v a (k ++ h) f b
 cut_within v a b h k fault.Shelf q = failed_within v a b h k fault.Shelf q
 cut_within v a b h k fault.Prog q = failed_within v a b h k fault.Prog q
 cut_within v a b h k fault.Stat q = failed_within v a b h k fault.Stat q
 cut_within v a b h k fault.OutOfMemory q = ran_out_within v a b h k q
 
--- nothing was written for want of memory
+-- without memory nothing need be written
 pub cut_none : {O : Type 0} (v : View O) (a : O) (h : Journal) → Cut v a h fault.OutOfMemory a
 cut_none v a h = record { done = []; later = h; all = sym (append-nil h); holds = holds_none v a; untouched = untouched_none v a h }
 
--- ---- of journals that were given up
+-- ---- journals that were given up
 
 left_out_more : {O : Type 0} (v : View O) (a b c : O) (h k : Journal) → Wrote v a h b → LeftOut v b k c → LeftOut v a (k ++ h) c
 left_out_more v a b c h k p q = record {
@@ -189,7 +189,7 @@ left_out_more v a b c h k p q = record {
   untouched = untouched_more v a b c h k p.untouched q.untouched;
 }
 
--- a journal was written, and then another one was given up
+-- giving up behind a whole journal
 pub gave_up_more : {O : Type 0} (v : View O) (a b c : O) (h k : Journal) (f : Fault) → Wrote v a h b → GaveUp v b k f c → GaveUp v a (k ++ h) f c
 gave_up_more v a b c h k fault.Shelf p q = failed_more v a b c h k fault.Shelf p q
 gave_up_more v a b c h k fault.Prog p q = failed_more v a b c h k fault.Prog p q
@@ -206,14 +206,14 @@ left_out_within v a b h k q = record {
   untouched = untouched_within v a b h k q.untouched;
 }
 
--- what was given up within a journal was given up within a longer one
+-- further writes that were to come are given up with it
 pub gave_up_within : {O : Type 0} (v : View O) (a b : O) (h k : Journal) (f : Fault) → GaveUp v a h f b → GaveUp v a (k ++ h) f b
 gave_up_within v a b h k fault.Shelf q = failed_within v a b h k fault.Shelf q
 gave_up_within v a b h k fault.Prog q = failed_within v a b h k fault.Prog q
 gave_up_within v a b h k fault.Stat q = failed_within v a b h k fault.Stat q
 gave_up_within v a b h k fault.OutOfMemory q = left_out_within v a b h k q
 
--- what was given up was cut
+-- giving up is a cut
 pub gave_up_cut : {O : Type 0} (v : View O) (a b : O) (h : Journal) (f : Fault) → GaveUp v a h f b → Cut v a h f b
 gave_up_cut v a b h fault.Shelf q = q
 gave_up_cut v a b h fault.Prog q = q
@@ -226,7 +226,7 @@ gave_up_cut v a b h fault.OutOfMemory q = record {
   untouched = q.untouched;
 }
 
--- the oldest of writes that were left out
+-- a list of missing writes that ends with its oldest one
 pub oldest : (w : Write) (later done : Journal) → (next : Write) × (more : Journal) × (w ∷ later ++ done ≡ more ++ next ∷ done)
 oldest w [] done = (w, [], refl)
 oldest w (x ∷ later) done = let q = oldest x later done in (q.0, w ∷ q.1, ap (λ l. w ∷ l) q.2)
@@ -243,14 +243,14 @@ left_out_before v a b w h q =
       untouched = untouched_within v a b h (w ∷ []) q.untouched;
     }
 
--- what was cut within a journal was given up where more was to be written
+-- a cut is giving up where one more write was to come
 pub cut_gave_up : {O : Type 0} (v : View O) (a b : O) (w : Write) (h : Journal) (f : Fault) → Cut v a h f b → GaveUp v a (w ∷ h) f b
 cut_gave_up v a b w h fault.Shelf q = failed_within v a b h (w ∷ []) fault.Shelf q
 cut_gave_up v a b w h fault.Prog q = failed_within v a b h (w ∷ []) fault.Prog q
 cut_gave_up v a b w h fault.Stat q = failed_within v a b h (w ∷ []) fault.Stat q
 cut_gave_up v a b w h fault.OutOfMemory q = left_out_before v a b w h q
 
--- the same of one more write
+-- ---- the same for a single write
 pub wrote_next : {O : Type 0} (v : View O) (a b c : O) (w : Write) (h : Journal) → Wrote v a h b → Wrote v b (w ∷ []) c → Wrote v a (w ∷ h) c
 wrote_next v a b c w h p q = wrote_more v a b c h (w ∷ []) p q
 
@@ -260,13 +260,13 @@ gave_up_next v a b c w h f p q = gave_up_more v a b c h (w ∷ []) f p q
 pub gave_up_before : {O : Type 0} (v : View O) (a b : O) (w : Write) (h : Journal) (f : Fault) → GaveUp v a h f b → GaveUp v a (w ∷ h) f b
 gave_up_before v a b w h f q = gave_up_within v a b h (w ∷ []) f q
 
--- memory ran out before anything was written
+-- without memory a journal that isn't empty is given up at its start
 pub gave_up_none : {O : Type 0} (v : View O) (a : O) (w : Write) (h : Journal) → GaveUp v a (w ∷ h) fault.OutOfMemory a
 gave_up_none v a w h = cut_gave_up v a a w h fault.OutOfMemory (cut_none v a h)
 
--- ---- of commands
+-- ---- outcomes
 
--- a journal was written, and then a command came to an outcome
+-- an outcome behind a whole journal
 pub ends_more : {O E : Type 0} (v : View O) (a b c : O) (h : Journal) (o : Outcome E) (r : Result E Fault) → Wrote v a h b → Ends v b o c r → Ends v a (behind h o) c r
 ends_more v a b c h o (Ok e) p q = (q.0, wrote_more v a b c h o.writes p q.1)
 ends_more v a b c h o (Err f) p q = gave_up_more v a b c h o.writes f p q

@@ -1,4 +1,4 @@
--- What holds of a value that is seen through what it leads to holds of that.
+-- Laws from a value that leads to another one to that other value.
 use Rattle.std.specs.Prelude.{◌≡◌, ℕ, List, Result, Ok, Err}
 use Rattle.std.proofs.Common.{inl, inr}
 use Rattle.journal.specs.declared.fault.Fault.{Fault}
@@ -79,7 +79,7 @@ by_found_through : {O Q E : Type 0} (f : O → Q) (place : O → ℕ × ℕ × �
     → EndsByFound (through f place v) a is Has b r → EndsByFound v (f a) is Has (f b) r
 by_found_through f place v a b is Has r e q = record { found = q.found; are = q.are; outcome = q.outcome; has = q.has; ends = ends_through f place v a b q.outcome r e q.ends }
 
--- so it is of what a command comes to
+-- a command over the one is a command over the other
 pub comes_through : {O Q E : Type 0} (f : O → Q) (place : O → ℕ × ℕ × ℕ) (v : View Q) (a b : O) (is : List Input) (Has : List Found → Outcome E → Type 0) (r : Result E Fault) → v.place (f b) ≡ v.place (f a)
     → Comes (through f place v) a is Has b r → Comes v (f a) is Has (f b) r
 comes_through f place v a b is Has (Ok x) e q = by_found_through f place v a b is Has (Ok x) e q

@@ -7,40 +7,41 @@ ghost use Rattle.journal.specs.Parts.{parts_view, through, parts_of, names_of};
 use crate::fault::Fault;
 use ss_base::{LoadFault, PutFault, Shelf, Sink};
 
-/// All that a command reaches: files by name, and two streams.
+/// Files by name and two streams: all that a command can reach. Each call says what it does to what
+/// is held, and keeps what stays.
 pub trait Outside {
-    /// How it is seen.
+    /// What contracts see of it.
     ghost view: { View Self };
 
-    /// Replaces `into` by the bytes of the named file, of which there may be at most `limit`.
+    /// Loads the named file in place of what `into` holds; it may have at most `limit` bytes.
     fn load(&mut self, name: &str, limit: u64, into: &mut Vec<u8>) -> Result<(), LoadFault>
         ensures { Loads view self.old (input name.now limit) into.new.items self.new result };
 
-    /// Makes the named file empty.
+    /// Makes the named file empty, or makes an empty one of that name.
     fn start(&mut self, name: &str) -> Result<(), Fault>
         ensures { Writes view self.old (Start name.now ∷ []) self.new result };
 
-    /// Adds bytes at the end of the named file.
+    /// Adds bytes at the end of the named file, which is made where there is none.
     fn append(&mut self, name: &str, bytes: &[u8]) -> Result<(), Fault>
         ensures { Writes view self.old (Append name.now bytes.now ∷ []) self.new result };
 
-    /// Puts bytes on the first stream, which has the output of programs.
+    /// Adds bytes at the end of the first stream, where the output of programs goes.
     fn put_output(&mut self, bytes: &[u8]) -> Result<(), Fault>
         ensures { Writes view self.old (Output bytes.now ∷ []) self.new result };
 
-    /// Puts bytes on the second stream, which has refusals and statistics.
+    /// Adds bytes at the end of the second stream, where refusals and statistics go.
     fn put_report(&mut self, bytes: &[u8]) -> Result<(), Fault>
         ensures { Writes view self.old (Report bytes.now ∷ []) self.new result };
 }
 
-/// A shelf and two streams that are borrowed.
+/// The outside that a shelf and two streams make.
 #[derive(Drop)]
 pub struct Borrowed<'h, 'p, 'r, H, P, R> {
-    /// Where the files are.
+    /// The files.
     pub shelf: &'h mut H,
-    /// The first stream.
+    /// The stream for output.
     pub prog: &'p mut P,
-    /// The second stream.
+    /// The stream for refusals and statistics.
     pub stat: &'r mut R,
 }
 

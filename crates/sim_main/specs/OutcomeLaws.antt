@@ -1,0 +1,92 @@
+-- Laws of what comes of a request, each by its command's own.
+use Rattle.std.proofs.Common.{◌≡◌, ◌≢◌, ℕ, List, [], Option, Some, None, Result, sym, ap, ◌∙◌, subst, refl}
+use Rattle.journal.specs.declared.fault.Fault.{Fault}
+use Rattle.journal.specs.declared.fault.Fault.TheVariants as fault
+use Rattle.journal.specs.declared.loading.Found.{Found}
+use Rattle.journal.specs.Write.{Lacks}
+use Rattle.journal.specs.Outcome.{Outcome}
+use Rattle.journal.specs.Texts.{StartsFiles, ReportsLast, IsProper}
+use Rattle.answers.specs.declared.answer.Answer.{Answer}
+use Rattle.answers.specs.declared.answer.Answer.TheVariants as answer
+use Rattle.answers.specs.declared.answer.Unbuilt.TheVariants as unbuilt
+use Rattle.answers.specs.Sound.{IsQuiet, NamesLong, IsSound, names_of}
+use Rattle.object_commands.specs.OutcomeLaws.{asm_once, dis_once, asm_proper, dis_proper, asm_sound, dis_sound}
+use Rattle.run_commands.specs.OutcomeLaws.{sim_safe_proper, record_proper}
+use Rattle.run_commands.specs.Outcome.{object_limit}
+use Rattle.sim_opts.specs.Request.{Request, SimSafe, Record, Asm, Dis}
+use Rattle.sim_main.specs.Outcome.{IsUnbuilt, inputs_of, not_built, source_limit, HasOutcome, ComesBy}
+use Rattle.sim_main.specs.RunLaws.{recording_outcome, sim_safe_once, record_once, sim_safe_sound, record_sound}
+
+-- what a command comes to with an answer or a fault is its outcome
+pub comes_has : (request : Option Request) (came : Result Answer Fault) (found : List Found) (o : Outcome Answer) → ComesBy request came found o → HasOutcome request found o
+comes_has None came found o h = h
+comes_has (Some (SimSafe commits trace max_inst object args)) came found o h = h
+comes_has (Some (Record out given files max_inst object args)) came found o h = recording_outcome out given files max_inst object args came found o h
+comes_has (Some (Asm source object)) came found o h = h
+comes_has (Some (Dis object)) came found o h = h
+
+-- of what is found there is at most one outcome
+pub one_outcome : (request : Option Request) (found : List Found) (o p : Outcome Answer) → HasOutcome request found o → HasOutcome request found p → o ≡ p
+one_outcome None found o p x y = x ∙ sym y
+one_outcome (Some (SimSafe commits trace max_inst object args)) found o p x y = sim_safe_once commits trace max_inst object args found o p x y
+one_outcome (Some (Record out given files max_inst object args)) found o p x y = record_once out given files max_inst object args found o p x y
+one_outcome (Some (Asm source object)) found o p x y = asm_once source object found o p x y
+one_outcome (Some (Dis object)) found o p x y = dis_once object found o p x y
+
+-- ---- what is written
+
+none_proper : (o : Outcome Answer) → o ≡ not_built → IsProper o.writes
+none_proper o h = subst (λ (x : Outcome Answer). IsProper x.writes) (sym h) (record { starts = tt; last = tt })
+
+is_proper : (request : Option Request) (found : List Found) (o : Outcome Answer) → HasOutcome request found o → IsProper o.writes
+is_proper None found o h = none_proper o h
+is_proper (Some (SimSafe commits trace max_inst object args)) found o h = sim_safe_proper commits trace max_inst object args found o h
+is_proper (Some (Record out given files max_inst object args)) found o h = record_proper out given files max_inst object args found o h
+is_proper (Some (Asm source object)) found o h = asm_proper source object found o h
+is_proper (Some (Dis object)) found o h = dis_proper object found o h
+
+pub starts_files : (request : Option Request) (found : List Found) (o : Outcome Answer) → HasOutcome request found o → StartsFiles o.writes
+starts_files request found o h = (is_proper request found o h).starts
+
+pub reports_last : (request : Option Request) (found : List Found) (o : Outcome Answer) → HasOutcome request found o → ReportsLast o.writes
+reports_last request found o h = (is_proper request found o h).last
+
+-- ---- what is answered
+
+pub is_sound : (request : Option Request) (found : List Found) (o : Outcome Answer) → (IsUnbuilt request → ⊥) → HasOutcome request found o → IsSound (inputs_of request) o
+is_sound None found o built h = absurd (built tt)
+is_sound (Some (SimSafe commits trace max_inst object args)) found o built h = sim_safe_sound commits trace max_inst object args found o h
+is_sound (Some (Record out given files max_inst object args)) found o built h = record_sound out given files max_inst object args found o h
+is_sound (Some (Asm source object)) found o built h = asm_sound source object source_limit found o h
+is_sound (Some (Dis object)) found o built h = dis_sound object object_limit found o h
+
+some_built : (r : Request) → IsUnbuilt (Some r) → ⊥
+some_built (SimSafe commits trace max_inst object args) u = u
+some_built (Record out given files max_inst object args) u = u
+some_built (Asm source object) u = u
+some_built (Dis object) u = u
+
+is_quiet : (request : Option Request) (found : List Found) (o : Outcome Answer) → HasOutcome request found o → IsQuiet o.ending o.writes
+is_quiet None found o h = subst (λ (x : Outcome Answer). IsQuiet x.ending x.writes) (sym h) refl
+is_quiet (Some r) found o h = (is_sound (Some r) found o (some_built r) h).quiet
+
+-- the writes behind an answer
+pub quiet_with : (request : Option Request) (a : Answer) (found : List Found) (o : Outcome Answer) → HasOutcome request found o → a ≡ o.ending → IsQuiet a o.writes
+quiet_with request a found o h e = subst (λ (x : Answer). IsQuiet x o.writes) (sym e) (is_quiet request found o h)
+
+names_by : (request : Option Request) (found : List Found) (o : Outcome Answer) → HasOutcome request found o → NamesLong (names_of (inputs_of request)) o.ending
+names_by None found o h = subst (λ (x : Outcome Answer). NamesLong [] x.ending) (sym h) tt
+names_by (Some r) found o h = (is_sound (Some r) found o (some_built r) h).names
+
+pub names_with : (request : Option Request) (a : Answer) (found : List Found) (o : Outcome Answer) → HasOutcome request found o → a ≡ o.ending → NamesLong (names_of (inputs_of request)) a
+names_with request a found o h e = subst (λ (x : Answer). NamesLong (names_of (inputs_of request)) x) (sym e) (names_by request found o h)
+
+-- ---- words that have no shape
+
+pub unbuilt_words : (request : Option Request) (found : List Found) (o : Outcome Answer) → HasOutcome request found o → o.ending ≡ answer.NotBuilt unbuilt.Words → IsUnbuilt request
+unbuilt_words None found o h e = tt
+unbuilt_words (Some r) found o h e = absurd ((is_sound (Some r) found o (some_built r) h).built e)
+
+pub words_unbuilt : (request : Option Request) (found : List Found) (o : Outcome Answer) → IsUnbuilt request → HasOutcome request found o → o ≡ not_built
+words_unbuilt None found o u h = h
+words_unbuilt (Some r) found o u h = absurd (some_built r u)
