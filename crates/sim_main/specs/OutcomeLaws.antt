@@ -1,10 +1,12 @@
 -- Laws of what comes of a request, each by its command's own.
-use Rattle.std.proofs.Common.{◌≡◌, ◌≢◌, ℕ, List, [], Option, Some, None, Result, sym, ap, ◌∙◌, subst, refl}
+use Rattle.std.proofs.Common.{◌≡◌, ◌≢◌, ℕ, List, [], Option, Some, None, Result, Ok, sym, ap, ◌∙◌, subst, refl}
 use Rattle.journal.specs.declared.fault.Fault.{Fault}
 use Rattle.journal.specs.declared.fault.Fault.TheVariants as fault
 use Rattle.journal.specs.declared.loading.Found.{Found}
 use Rattle.journal.specs.Write.{Lacks}
-use Rattle.journal.specs.Outcome.{Outcome}
+use Rattle.journal.specs.View.{View}
+use Rattle.journal.specs.Laws.{wrote_none}
+use Rattle.journal.specs.Outcome.{Outcome, EndsByFound}
 use Rattle.journal.specs.Texts.{StartsFiles, ReportsLast, IsProper}
 use Rattle.answers.specs.declared.answer.Answer.{Answer}
 use Rattle.answers.specs.declared.answer.Answer.TheVariants as answer
@@ -90,3 +92,12 @@ unbuilt_words (Some r) found o h e = absurd ((is_sound (Some r) found o (some_bu
 pub words_unbuilt : (request : Option Request) (found : List Found) (o : Outcome Answer) → IsUnbuilt request → HasOutcome request found o → o ≡ not_built
 words_unbuilt None found o u h = h
 words_unbuilt (Some r) found o u h = absurd (some_built r u)
+
+-- they come to it at once
+by_none : {O : Type 0} (v : View O) (a : O) → EndsByFound v a [] (λ _ o. o ≡ not_built) a (Ok not_built.ending)
+by_none v a = record { found = []; are = tt; outcome = not_built; has = refl; ends = (refl, wrote_none v a) }
+
+pub unbuilt_comes : {O : Type 0} (v : View O) (a : O) (request : Option Request) (x : Answer) → None ≡ request → x ≡ not_built.ending → EndsByFound v a (inputs_of request) (ComesBy request (Ok x)) a (Ok x)
+unbuilt_comes v a request x none e =
+    subst (λ (r : Option Request). EndsByFound v a (inputs_of r) (ComesBy r (Ok x)) a (Ok x)) none
+    (subst (λ (y : Answer). EndsByFound v a [] (λ _ o. o ≡ not_built) a (Ok y)) (sym e) (by_none v a))
