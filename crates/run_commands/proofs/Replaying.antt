@@ -32,7 +32,7 @@ use Rattle.answers.specs.Report.{statistics_text}
 use Rattle.answers.specs.JudgingLaws.{given_judged}
 use Rattle.run_commands.specs.Outcome.{SimSafeOutcome, trace_limit, ran, ran_for, recorded, recorded_for, ran_answer, ran_report, start_of, step_limit, trace_made, trace_text}
 use Rattle.run_commands.specs.Replay.{EndsAgain, IsReplayed, IsRecorded, made_by}
-use Rattle.run_commands.proofs.Texts.{run_output, run_report, start_output, start_report}
+use Rattle.run_commands.specs.TextLaws.{run_output, run_report, start_output, start_report}
 
 -- ---- the trace of a recording
 

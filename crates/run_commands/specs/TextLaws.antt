@@ -35,6 +35,9 @@ written_output file was (i ∷ h) =
     let w = written_of file was h in
     output_more (writes_of file w.pending i) w.journal ∙ ap (λ x. x ++ output_of (writes_of file w.pending i)) (written_output file was h) ∙ ap (λ x. outputs_back h ++ x) (item_output file w.pending i)
 
+pub written_outputs : (file : Option (List ℕ)) (is : List Item) → output_of (written_of file [] (onto is [])).journal ≡ outputs_of is
+written_outputs file is = written_output file [] (onto is []) ∙ outputs_onto is []
+
 last_output : (file : Option (List ℕ)) (pending : List ℕ) → output_of (last_piece file pending) ≡ []
 last_output None pending = refl
 last_output (Some file) pending = refl
@@ -43,7 +46,7 @@ last_output (Some file) pending = refl
 pub run_outputs : (file : Option (List ℕ)) (is : List Item) → output_of (run_journal file is) ≡ outputs_of is
 run_outputs file is =
     let w = written_of file [] (onto is []) in
-    output_more (last_piece file w.pending) w.journal ∙ ap (λ x. output_of w.journal ++ x) (last_output file w.pending) ∙ append-nil (output_of w.journal) ∙ written_output file [] (onto is []) ∙ outputs_onto is []
+    output_more (last_piece file w.pending) w.journal ∙ ap (λ x. output_of w.journal ++ x) (last_output file w.pending) ∙ append-nil (output_of w.journal) ∙ written_outputs file is
 
 pub run_output : (file other : Option (List ℕ)) (is : List Item) → output_of (run_journal file is) ≡ output_of (run_journal other is)
 run_output file other is = run_outputs file is ∙ sym (run_outputs other is)
