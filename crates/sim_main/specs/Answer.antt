@@ -1,11 +1,11 @@
 -- What the top call answers and leaves: one relation, and the facts that follow from it.
-use Rattle.std.specs.Prelude.{◌≡◌, ◌⊎◌, ◌<◌, ◌++◌, ℕ, List, Option, Some, None, Result}
+use Rattle.std.specs.Prelude.{◌≡◌, ◌⊎◌, ◌<◌, ℕ, List, Option, Some, None, Result}
 use Rattle.ss_base.specs.Outside.{Files, SameFiles}
 use Rattle.journal.specs.declared.fault.Fault.{Fault}
 use Rattle.journal.specs.declared.loading.Found.{Found}
 use Rattle.journal.specs.Write.{GotFront, output_of}
 use Rattle.journal.specs.View.{View, Risen}
-use Rattle.journal.specs.Load.{Input, AreFound}
+use Rattle.journal.specs.Load.{AreFound}
 use Rattle.journal.specs.Outcome.{Outcome, Comes}
 use Rattle.journal.specs.Texts.{FileFronts}
 use Rattle.journal.specs.Clauses.{IfAnswered}

@@ -1,29 +1,26 @@
 -- Laws from what a command comes to, to each fact of its ending.
-use Rattle.std.specs.Prelude.{◌≡◌, ◌≢◌, ◌<◌, ◌↔◌, ◌++◌, ℕ, Bool, true, false, List, Option, Some, None, Result, Ok, Err}
+use Rattle.std.specs.Prelude.{◌≡◌, ◌≢◌, ◌<◌, ◌++◌, ℕ, Bool, true, false, Option, Some, None, Result, Ok, Err}
 use Rattle.std.proofs.Common.{refl, sym, ap, ◌∙◌, subst, inl, inr, arith}
-use Rattle.ss_base.specs.Outside.{Files}
 use Rattle.journal.specs.declared.fault.Fault.{Fault}
 use Rattle.journal.specs.declared.fault.Fault.TheVariants as fault
-use Rattle.journal.specs.declared.loading.Found.{Found}
 use Rattle.journal.specs.Write.{Journal, output_of, report_of, Lacks}
-use Rattle.journal.specs.View.{View, Stays, IsCalm, counts}
-use Rattle.journal.specs.Load.{Input, AreHeld}
-use Rattle.journal.specs.Outcome.{Outcome, Comes}
+use Rattle.journal.specs.View.{View, counts}
+use Rattle.journal.specs.Load.{AreHeld}
+use Rattle.journal.specs.Outcome.{Comes}
 use Rattle.journal.specs.Texts.{WholeFiles}
 use Rattle.journal.specs.Loading.{comes_map}
-use Rattle.journal.specs.Clauses.{answer_in, OutcomeWith, LeavesFiles, LeavesOutput, LeavesReport, EndsBy, IfAnswered, Gets}
-use Rattle.journal.specs.ClauseLaws.{CountsBy, counts_by, leaves_files, leaves_output, leaves_report, memory, last, stays, succeeds, quiet, quiet_prog, quiet_stat, ends_by, prog_succeeds, stat_succeeds}
+use Rattle.journal.specs.Clauses.{answer_in, OutcomeWith, EndsBy, IfAnswered}
+use Rattle.journal.specs.ClauseLaws.{CountsBy, counts_by, leaves_files, memory, last, succeeds, quiet, quiet_prog, quiet_stat, ends_by, prog_succeeds, stat_succeeds}
 use Rattle.answers.specs.declared.answer.Answer.{Answer}
 use Rattle.answers.specs.declared.answer.Answer.TheVariants as answer
 use Rattle.answers.specs.declared.answer.Unbuilt.TheVariants as unbuilt
-use Rattle.answers.specs.Sound.{IsQuiet, NamesLong, names_of}
+use Rattle.answers.specs.Sound.{NamesLong, names_of}
 use Rattle.sim_opts.specs.Request.{Request}
-use Rattle.sim_main.specs.declared.ending.Ending.{Ending}
 use Rattle.sim_main.specs.declared.ending.Ending.TheVariants as ending
 use Rattle.sim_main.specs.Ending.{answer_ending, fault_ending, ending_of, answer_of, is_fault}
-use Rattle.sim_main.specs.Outcome.{inputs_of, HasOutcome, ComesBy, IsUnbuilt, not_built}
-use Rattle.sim_main.specs.Answer.{Counts, Quiet, EndingNames}
-use Rattle.sim_main.specs.OutcomeLaws.{comes_has, starts_files, reports_last, quiet_with, names_with, unbuilt_words, words_unbuilt}
+use Rattle.sim_main.specs.Outcome.{inputs_of, HasOutcome, ComesBy, IsUnbuilt}
+use Rattle.sim_main.specs.Answer.{Counts, Quiet}
+use Rattle.sim_main.specs.OutcomeLaws.{comes_has, starts_files, reports_last, quiet_with, names_with, unbuilt_words}
 
 -- ---- endings
 

@@ -1,5 +1,5 @@
 -- Laws from the place in its writes at which a command gave up to how far it came.
-use Rattle.std.specs.Prelude.{◌≡◌, ◌⊎◌, ℕ, List, Option, Some, None, Result}
+use Rattle.std.specs.Prelude.{◌≡◌, ℕ, List, Option, Some, None, Result}
 use Rattle.std.proofs.Common.{inl, inr}
 use Rattle.ss_base.specs.Outside.{Files}
 use Rattle.journal.specs.declared.fault.Fault.{Fault}

@@ -1,8 +1,9 @@
 -- What comes of words: the files that are loaded for them, and the outcome of what is found in these.
-use Rattle.std.specs.Prelude.{◌≡◌, ℕ, List, [], ◌∷◌, Option, Some, None, Result}
+use Rattle.std.specs.Prelude.{◌≡◌, ◌<◌, ℕ, List, [], ◌∷◌, Option, Some, None, Result, slice_index}
+use Rattle.ss_base.specs.Outside.{Files, bytes_at}
 use Rattle.journal.specs.declared.fault.Fault.{Fault}
 use Rattle.journal.specs.declared.loading.Found.{Found}
-use Rattle.journal.specs.Load.{Input, input}
+use Rattle.journal.specs.Load.{Input, input, AreFound}
 use Rattle.journal.specs.Outcome.{Outcome}
 use Rattle.answers.specs.declared.answer.Answer.{Answer}
 use Rattle.answers.specs.declared.answer.Answer.TheVariants as answer
@@ -52,3 +53,17 @@ ComesBy (Some (SimSafe commits trace max_inst object args)) came found o = SimSa
 ComesBy (Some (Record out given files max_inst object args)) came found o = RecordingOutcome out given files max_inst object args came found o
 ComesBy (Some (Asm source object)) came found o = AsmOutcome source object found o
 ComesBy (Some (Dis object)) came found o = DisOutcome object found o
+
+-- ---- exactly one outcome
+
+-- files hold bytes
+abbrev pub HoldBytes : Files → Type 0
+HoldBytes files = (name : List ℕ) (k : ℕ) → slice_index (bytes_at files name) k < 256
+
+-- what is found in files, and the one outcome of that
+pub record ExactlyOne (request : Option Request) (files : Files) : Type 0 where
+  pub found : List Found
+  pub are : AreFound (Unit {0}) files (inputs_of request) found
+  pub outcome : Outcome Answer
+  pub has : HasOutcome request found outcome
+  pub only : (others : List Found) (o : Outcome Answer) → AreFound (Unit {0}) files (inputs_of request) others → HasOutcome request others o → o ≡ outcome

@@ -1,9 +1,13 @@
 -- Laws of what comes of a request, each by its command's own.
-use Rattle.std.proofs.Common.{◌≡◌, ◌≢◌, ℕ, List, [], Option, Some, None, Result, Ok, sym, ap, ◌∙◌, subst, refl}
+use Rattle.std.proofs.Common.{◌≡◌, ◌<◌, ℕ, List, [], ◌∷◌, Option, Some, None, Result, Ok, sym, ◌∙◌, subst, refl}
 use Rattle.journal.specs.declared.fault.Fault.{Fault}
-use Rattle.journal.specs.declared.fault.Fault.TheVariants as fault
 use Rattle.journal.specs.declared.loading.Found.{Found}
-use Rattle.journal.specs.Write.{Lacks}
+use Rattle.journal.specs.declared.loading.Found.TheVariants as found
+use Rattle.ss_base.specs.Outside.{Files}
+use Rattle.journal.specs.Load.{Input, input, AreFound}
+use Rattle.journal.specs.Loading.{found_in, are_there, are_found_once}
+use Rattle.answers.specs.JudgingLaws.{FoundBytes, SomeOutcome}
+use Rattle.object_commands.specs.SomeLaws.{asm_some, dis_some}
 use Rattle.journal.specs.View.{View}
 use Rattle.journal.specs.Laws.{wrote_none}
 use Rattle.journal.specs.Outcome.{Outcome, EndsByFound}
@@ -16,8 +20,9 @@ use Rattle.object_commands.specs.OutcomeLaws.{asm_once, dis_once, asm_proper, di
 use Rattle.run_commands.specs.OutcomeLaws.{sim_safe_proper, record_proper}
 use Rattle.run_commands.specs.Outcome.{object_limit}
 use Rattle.sim_opts.specs.Request.{Request, SimSafe, Record, Asm, Dis}
-use Rattle.sim_main.specs.Outcome.{IsUnbuilt, inputs_of, not_built, source_limit, HasOutcome, ComesBy}
-use Rattle.sim_main.specs.RunLaws.{recording_outcome, sim_safe_once, record_once, sim_safe_sound, record_sound}
+use Rattle.std.specs.Prelude.{map, slice_index}
+use Rattle.sim_main.specs.Outcome.{IsUnbuilt, inputs_of, not_built, source_limit, HasOutcome, ComesBy, HoldBytes, ExactlyOne}
+use Rattle.sim_main.specs.RunLaws.{recording_outcome, sim_safe_once, record_once, sim_safe_sound, record_sound, sim_safe_some, record_some}
 
 -- what a command comes to with an answer or a fault is its outcome
 pub comes_has : (request : Option Request) (came : Result Answer Fault) (found : List Found) (o : Outcome Answer) → ComesBy request came found o → HasOutcome request found o
@@ -101,3 +106,33 @@ pub unbuilt_comes : {O : Type 0} (v : View O) (a : O) (request : Option Request)
 unbuilt_comes v a request x none e =
     subst (λ (r : Option Request). EndsByFound v a (inputs_of r) (ComesBy r (Ok x)) a (Ok x)) none
     (subst (λ (y : Answer). EndsByFound v a [] (λ _ o. o ≡ not_built) a (Ok y)) (sym e) (by_none v a))
+
+-- ---- whatever files are held, there is an outcome
+
+some_outcome : (request : Option Request) (files : Files) (found : List Found) → AreFound (Unit {0}) files (inputs_of request) found → FoundBytes found → SomeOutcome (HasOutcome request found)
+some_outcome None files found are bytes = (not_built, refl)
+some_outcome (Some (SimSafe commits trace max_inst object args)) files found are bytes = sim_safe_some commits trace max_inst object args (Unit {0}) files found are bytes
+some_outcome (Some (Record out given opens max_inst object args)) files found are bytes = record_some out given opens max_inst object args (Unit {0}) files found are bytes
+some_outcome (Some (Asm source object)) files found are bytes = asm_some source object (input source source_limit) (Unit {0}) files found are bytes
+some_outcome (Some (Dis object)) files found are bytes = dis_some object (input object object_limit) (Unit {0}) files found are bytes
+
+-- what is found in files of bytes are bytes
+found_bytes : (files : Files) (is : List Input) (found : List Found) → HoldBytes files → AreFound (Unit {0}) files is found → FoundBytes found
+found_bytes files [] [] held are = tt
+found_bytes files [] (f ∷ fs) held are = absurd are
+found_bytes files (i ∷ is) [] held are = absurd are
+found_bytes files (i ∷ is) (found.Whole bytes ∷ fs) held are = (λ k. subst (λ (x : List ℕ). slice_index x k < 256) (sym (are.0.1 tt)) (held i.name k), found_bytes files is fs held are.1)
+found_bytes files (i ∷ is) (found.TooLong ∷ fs) held are = found_bytes files is fs held are.1
+
+pub exactly_one : (request : Option Request) (files : Files) → HoldBytes files → ExactlyOne request files
+exactly_one request files held =
+    let fs = map (found_in files) (inputs_of request) in
+    let are = are_there (Unit {0}) files (inputs_of request) in
+    let some = some_outcome request files fs are (found_bytes files (inputs_of request) fs held are) in
+    record {
+      found = fs;
+      are = are;
+      outcome = some.0;
+      has = some.1;
+      only = λ gs o others has. one_outcome request gs o some.0 has (subst (λ (x : List Found). HasOutcome request x some.0) (are_found_once files (inputs_of request) fs gs are others) some.1);
+    }

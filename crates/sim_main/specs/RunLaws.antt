@@ -1,7 +1,7 @@
 -- Laws of what sim-safe and record come to: at most one outcome, a sound answer, and a recording with or
 -- without its replay.
-use Rattle.std.proofs.Common.{◌≡◌, ℕ, List, [], ◌∷◌, Option, Some, None, Result, Ok, Err, sym, ◌∙◌, subst}
-use Rattle.std.specs.Prelude.{map, Contains, unwrap_or}
+use Rattle.std.proofs.Common.{◌≡◌, ℕ, List, [], ◌∷◌, Option, Some, None, Result, Ok, Err, refl, sym, ◌∙◌, subst}
+use Rattle.std.specs.Prelude.{Contains, unwrap_or}
 use Rattle.ecoff_load.specs.declared.image.Image.{Image}
 use Rattle.event_trace.specs.declared.trace.Trace.{Trace}
 use Rattle.event_trace.specs.World.{File, WorldState}
@@ -10,13 +10,14 @@ use Rattle.sim_safe.specs.State.{State, start_state}
 use Rattle.journal.specs.declared.fault.Fault.{Fault}
 use Rattle.journal.specs.declared.loading.Found.{Found}
 use Rattle.journal.specs.Write.{Journal}
-use Rattle.journal.specs.Load.{Input, input}
+use Rattle.ss_base.specs.Outside.{Files}
+use Rattle.journal.specs.Load.{Input, input, AreFound}
 use Rattle.journal.specs.Outcome.{Outcome}
 use Rattle.answers.specs.declared.answer.Answer.{Answer}
 use Rattle.answers.specs.declared.answer.Answer.TheVariants as answer
-use Rattle.answers.specs.Answer.{answered, refused}
-use Rattle.answers.specs.Judging.{LoadsFile, LoadsNamed, LoadsEach, JudgesObject, JudgesGiven}
-use Rattle.answers.specs.JudgingLaws.{file_map, named_map, each_map, object_map, file_once, named_once, each_once, object_once, given_once}
+use Rattle.answers.specs.Answer.{refused}
+use Rattle.answers.specs.Judging.{LoadsNamed, LoadsEach, JudgesObject, JudgesGiven}
+use Rattle.answers.specs.JudgingLaws.{file_map, named_map, each_map, object_map, file_once, named_once, each_once, object_once, given_once, FoundBytes, SomeOutcome, file_some, object_some, given_some}
 use Rattle.answers.specs.Sound.{IsSound, names_of}
 use Rattle.answers.specs.SoundLaws.{EachOf, file_all, named_all, each_all, object_all, given_all, refused_sound, run_sound, first_named, later_named, each_named, each_map_of}
 use Rattle.run_commands.specs.Outcome.{SimSafeOutcome, JudgesRecording, RecordOutcome, sim_safe_inputs, record_inputs, named_input, opened_inputs, object_limit, trace_limit, input_limit, world_of, ran, recorded, ran_to, ran_answer}
@@ -128,3 +129,43 @@ record_sound out given files max_inst object args loaded o x =
     (λ opened _. object_all P program o (λ image. Ends bytes opened image) (λ bad. refused_sound inputs (answer.Object bad.at bad.why) tt)
     (λ image e. subst P (sym e) (ran_sound inputs _ _ _ _ _)))))
     x
+
+-- ---- whatever is found, there is an outcome
+
+named_some : (limit : ℕ) (name : Option (List ℕ)) (is : List Input) (Told : Type 0) (files : Files) (loaded : List Found) (N : Outcome Answer → Option (List ℕ) → List Found → Type 0)
+    → AreFound Told files (named_input limit name is) loaded → FoundBytes loaded → ((bytes : Option (List ℕ)) (others : List Found) → AreFound Told files is others → FoundBytes others → SomeOutcome (λ o. N o bytes others))
+    → SomeOutcome (λ o. LoadsNamed name loaded o (N o))
+named_some limit None is Told files loaded N are bytes some = some None loaded are bytes
+named_some limit (Some name) is Told files [] N are bytes some = absurd are
+named_some limit (Some name) is Told files (f ∷ fs) N are bytes some = file_some name f fs (λ o b others. N o (Some b) others) bytes (λ b _ rest. some (Some b) fs are.1 rest)
+
+each_some : (names : List (List ℕ)) (Told : Type 0) (files : Files) (loaded : List Found) (N : Outcome Answer → List File → List Found → Type 0)
+    → AreFound Told files (opened_inputs names) loaded → FoundBytes loaded → ((opened : List File) (others : List Found) → SomeOutcome (λ o. N o opened others)) → SomeOutcome (λ o. LoadsEach names loaded o (N o))
+each_some [] Told files loaded N are bytes some = some [] loaded
+each_some (name ∷ names) Told files [] N are bytes some = absurd are
+each_some (name ∷ names) Told files (f ∷ fs) N are bytes some =
+    let first : List ℕ → List File → List File = λ b opened. record { name = name; bytes = b } ∷ opened in
+    file_some name f fs (λ o b others. LoadsEach names others o (λ opened rest. N o (first b opened) rest)) bytes
+    (λ b _ rest. each_some names Told files fs (λ o opened others. N o (first b opened) others) are.1 rest (λ opened others. some (first b opened) others))
+
+pub sim_safe_some : (commits trace : Option (List ℕ)) (max_inst : ℕ) (object : List ℕ) (args : List (List ℕ)) (Told : Type 0) (files : Files) (loaded : List Found)
+    → AreFound Told files (sim_safe_inputs trace object) loaded → FoundBytes loaded → SomeOutcome (SimSafeOutcome commits trace max_inst object args loaded)
+sim_safe_some commits trace max_inst object args Told files [] are bytes = absurd are
+sim_safe_some commits trace max_inst object args Told files (f ∷ fs) are bytes =
+    let Ends : Outcome Answer → Image → Trace → Type 0 = λ o image given. o ≡ ran given max_inst (start_state image args) commits in
+    let Reads : Outcome Answer → List ℕ → Option (List ℕ) → Type 0 = λ o program calls. JudgesObject program o (λ image. JudgesGiven calls image.text.big o (λ given. Ends o image given)) in
+    file_some object f fs (λ o program others. LoadsNamed trace others o (λ calls _. Reads o program calls)) bytes
+    (λ program all rest. named_some trace_limit trace [] Told files fs (λ o calls _. Reads o program calls) are.1 rest
+    (λ calls others _ _. object_some program (λ o image. JudgesGiven calls image.text.big o (λ given. Ends o image given)) all
+    (λ image _. given_some calls image.text.big (λ o given. Ends o image given) (λ given. (ran given max_inst (start_state image args) commits, refl)))))
+
+pub record_some : (out : List ℕ) (given : Option (List ℕ)) (opens : List (List ℕ)) (max_inst : ℕ) (object : List ℕ) (args : List (List ℕ)) (Told : Type 0) (files : Files) (loaded : List Found)
+    → AreFound Told files (record_inputs given opens object) loaded → FoundBytes loaded → SomeOutcome (RecordOutcome out given opens max_inst object args loaded)
+record_some out given opens max_inst object args Told files [] are bytes = absurd are
+record_some out given opens max_inst object args Told files (f ∷ fs) are bytes =
+    let Run : Option (List ℕ) → List File → Image → Outcome Answer = λ b opened image. recorded (world_of (unwrap_or b []) opened image) image.text.big max_inst (start_state image args) out in
+    let Reads : Outcome Answer → List ℕ → Option (List ℕ) → List File → Type 0 = λ o program b opened. JudgesObject program o (λ image. o ≡ Run b opened image) in
+    file_some object f fs (λ o program others. LoadsNamed given others o (λ b rest. LoadsEach opens rest o (λ opened _. Reads o program b opened))) bytes
+    (λ program all rest. named_some input_limit given (opened_inputs opens) Told files fs (λ o b others. LoadsEach opens others o (λ opened _. Reads o program b opened)) are.1 rest
+    (λ b others found held. each_some opens Told files others (λ o opened _. Reads o program b opened) found held
+    (λ opened _. object_some program (λ o image. o ≡ Run b opened image) all (λ image _. (Run b opened image, refl)))))

@@ -8,11 +8,9 @@
 mod ending;
 mod laws;
 mod request;
-#[cfg(test)]
-mod tests;
 mod top;
 
 pub use answers::Unbuilt;
 pub use ending::Ending;
-pub use laws::{answers_exclude_each_other, counts_tell};
+pub use laws::{answers_exclude_each_other, counts_tell, each_has_an_outcome};
 pub use top::simulate;

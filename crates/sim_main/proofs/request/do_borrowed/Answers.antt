@@ -1,4 +1,4 @@
-use Rattle.std.proofs.Common.{◌≡◌, ℕ, ap, refl}
+use Rattle.std.proofs.Common.{ℕ, ap, refl}
 use Rattle.std.specs.Prelude.{map, string_bytes}
 use Rattle.journal.specs.Parts.{parts_view, parts_of, names_of, through}
 use Rattle.journal.specs.ClauseLaws.{stays}

@@ -1,9 +1,8 @@
-use Rattle.std.proofs.Common.{◌≡◌, ◌≢◌, ◌++◌, ◌∙◌, ap, sym, subst, Option}
+use Rattle.std.proofs.Common.{◌≡◌, ◌++◌, ◌∙◌, ap, sym, subst, Option}
 use Rattle.std.specs.Prelude.{map, string_bytes, Ok}
 use Rattle.journal.specs.Write.{output_of, report_of}
 use Rattle.journal.specs.View.{counts}
 use Rattle.journal.specs.Parts.{parts_view}
-use Rattle.journal.specs.Outcome.{Outcome}
 use Rattle.journal.specs.Texts.{WholeFiles}
 use Rattle.journal.specs.Clauses.{LeavesFiles, LeavesOutput, LeavesReport, OutcomeWith, EndsBy, IfAnswered}
 use Rattle.journal.specs.ClauseLaws.{leaves_files, leaves_output, leaves_report, counts_by, stays}
@@ -11,9 +10,8 @@ use Rattle.answers.specs.declared.answer.Answer.{Answer}
 use Rattle.answers.specs.Sound.{NamesLong, names_of}
 use Rattle.sim_opts.specs.Reading.{request_of}
 use Rattle.sim_main.specs.declared.ending.Ending.{Ending}
-use Rattle.sim_main.specs.declared.ending.Ending.TheVariants as ending
 use Rattle.sim_main.specs.Ending.{ending_of, answer_of, is_fault}
-use Rattle.sim_main.specs.Outcome.{inputs_of, HasOutcome, ComesBy, IsUnbuilt}
+use Rattle.sim_main.specs.Outcome.{inputs_of, HasOutcome, ComesBy}
 use Rattle.sim_main.specs.Answer.{Counts, Quiet}
 use Rattle.sim_main.specs.OutcomeLaws.{starts_files}
 use Rattle.sim_main.specs.EndingLaws.{answer_told, fault_told, plain, counts_of, memory_by, last_by, quiet_by, ending_by, replay_by, names_told, unbuilt_by, succeeds_by, streams_succeed_by}
