@@ -202,6 +202,16 @@ comes_as_far v a b inputs Has f t u (inl q) = inl (same_loading v a b inputs f t
 comes_as_far v a b inputs Has f t u (inr q) =
     inr (loaded_with v a b inputs Has (Err f) (λ o. CameTo o.writes (v.files a) (v.files b) (v.prog.contents a) (v.prog.contents b)) t q (gave_up_at v a b q.outcome.writes f t u q.ends))
 
+-- at one place of a journal each file has a front of its text, and the first stream a front of the output
+pub came_files : (h : Journal) (old new : Files) (before now : List ℕ) → StartsFiles h → CameTo h old new before now → FileFronts h old new
+came_files h old new before now s q =
+    let starts = subst StartsFiles q.all s in
+    subst (λ l. FileFronts l old new) (sym q.all) (fronts_more q.later (q.next ∷ q.done) old new starts (part_fronts q.next q.done old new (starts_earlier q.later (q.next ∷ q.done) starts) q.files))
+
+pub came_output : (h : Journal) (old new : Files) (before now : List ℕ) → CameTo h old new before now → GotFront before (output_of h) now
+came_output h old new before now q =
+    subst (λ l. GotFront before (output_of l) now) (sym q.all) (output_later q.later (q.next ∷ q.done) before now (output_part q.next q.done before now q.output))
+
 some_is_none : {E : Type 0} (e : E) → Some e ≡ None → ⊥
 some_is_none e h = cc
 
@@ -345,3 +355,14 @@ quiet_prog v a b inputs Has e lacks p = p.ends.1.untouched.prog (lacks p.found p
 pub quiet_stat : {O E : Type 0} (v : View O) (a b : O) (inputs : List Input) (Has : List Found → Outcome E → Type 0) (e : E)
     → ((fs : List Found) (o : Outcome E) → Has fs o → e ≡ o.ending → Lacks fault.Stat o.writes) → Comes v a inputs Has b (Ok e) → v.stat.sink b ≡ v.stat.sink a
 quiet_stat v a b inputs Has e lacks p = p.ends.1.untouched.stat (lacks p.found p.outcome p.has p.ends.0)
+
+-- ---- calm streams
+
+-- a calm stream has no fault
+pub prog_succeeds : {O E : Type 0} (v : View O) (a b : O) (inputs : List Input) (Has : List Found → Outcome E → Type 0) → v.prog.calm a → Comes v a inputs Has b (Err fault.Prog) → ⊥
+prog_succeeds v a b inputs Has k (inl q) = q
+prog_succeeds v a b inputs Has k (inr q) = q.ends.calm k
+
+pub stat_succeeds : {O E : Type 0} (v : View O) (a b : O) (inputs : List Input) (Has : List Found → Outcome E → Type 0) → v.stat.calm a → Comes v a inputs Has b (Err fault.Stat) → ⊥
+stat_succeeds v a b inputs Has k (inl q) = q
+stat_succeeds v a b inputs Has k (inr q) = q.ends.calm k

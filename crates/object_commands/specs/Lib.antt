@@ -1,3 +1,4 @@
 pub mod Listing
 pub mod Outcome
 pub mod OutcomeLaws
+pub mod SomeLaws

@@ -4,6 +4,8 @@ use Rattle.ecoff_load.specs.declared.image.Image.{Image}
 use Rattle.ecoff_load.specs.declared.image.Text.{Text}
 use Rattle.pisa_asm.specs.declared.fault.AsmFault.{AsmFault}
 use Rattle.pisa_asm.specs.declared.fault.AsmFault.TheVariants as fault
+use Rattle.pisa_asm.specs.declared.fault.TextWhy.{TextWhy}
+use Rattle.pisa_asm.specs.declared.fault.TextWhy.TheVariants as why
 use Rattle.pisa_asm.specs.Passes.{described, CanBeHeld}
 use Rattle.journal.specs.declared.fault.Fault.TheVariants as faults
 use Rattle.journal.specs.declared.loading.Found.{Found}
@@ -13,6 +15,11 @@ use Rattle.journal.specs.Texts.{StartsFiles, ReportsLast, IsProper}
 use Rattle.journal.specs.Propers.{started_alone, started_append, proper_started, proper_report}
 use Rattle.journal.specs.Outcome.{Outcome}
 use Rattle.answers.specs.declared.answer.Answer.{Answer}
+use Rattle.answers.specs.declared.answer.Answer.TheVariants as answer
+use Rattle.answers.specs.Answer.{refused}
+use Rattle.answers.specs.Sound.{IsSound}
+use Rattle.answers.specs.SoundLaws.{file_all, object_all, refused_sound, made_sound, first_named}
+use Rattle.journal.specs.Load.{input}
 use Rattle.answers.specs.Judging.{JudgesObject}
 use Rattle.answers.specs.JudgingLaws.{file_once, object_once}
 use Rattle.object_commands.specs.Listing.{pieces_put}
@@ -108,3 +115,28 @@ pub dis_proper : (object : List ℕ) (loaded : List Found) (o : Outcome Answer) 
 dis_proper object [] o x = absurd x
 dis_proper object (found.TooLong ∷ others) o x = subst (λ (x : Outcome Answer). IsProper x.writes) (sym x) (proper_report _)
 dis_proper object (found.Whole program ∷ others) o x = listed_proper program o x
+
+-- ---- what is answered is sound
+
+source_all : (P : Outcome Answer → Type 0) (meaning : Result Image AsmFault) (o : Outcome Answer) (N : Image → Type 0)
+    → ((line : ℕ) (reason : TextWhy) → P (refused (answer.Text line reason))) → ((image : Image) → N image → P o) → JudgesSource meaning o N → P o
+source_all P (Err (fault.Bad line reason)) o N bad next x = subst P (sym x) (bad line reason)
+source_all P (Err fault.OutOfMemory) o N bad next x = absurd x
+source_all P (Ok image) o N bad next (inl x) = subst P (sym x.1) (bad 0 why.Layout)
+source_all P (Ok image) o N bad next (inr x) = next image x.1
+
+pub asm_sound : (source object : List ℕ) (limit : ℕ) (loaded : List Found) (o : Outcome Answer) → AsmOutcome source object loaded o → IsSound (input source limit ∷ []) o
+asm_sound source object limit loaded o x =
+    let files = input source limit ∷ [] in
+    let P : Outcome Answer → Type 0 = IsSound files in
+    file_all P source loaded o (λ bytes _. JudgesSource (described bytes) o (λ image. o ≡ object_made object image)) (refused_sound files (answer.TooLong source) (first_named source []))
+    (λ bytes _. source_all P (described bytes) o (λ image. o ≡ object_made object image) (λ line reason. refused_sound files (answer.Text line reason) tt)
+    (λ image e. subst P (sym e) (made_sound files _ (λ d. cc, (λ d. cc, tt))))) x
+
+pub dis_sound : (object : List ℕ) (limit : ℕ) (loaded : List Found) (o : Outcome Answer) → DisOutcome object loaded o → IsSound (input object limit ∷ []) o
+dis_sound object limit loaded o x =
+    let files = input object limit ∷ [] in
+    let P : Outcome Answer → Type 0 = IsSound files in
+    file_all P object loaded o (λ program _. JudgesObject program o (λ image. o ≡ listing_made image.text)) (refused_sound files (answer.TooLong object) (first_named object []))
+    (λ program _. object_all P program o (λ image. o ≡ listing_made image.text) (λ bad. refused_sound files (answer.Object bad.at bad.why) tt)
+    (λ image e. subst P (sym e) (made_sound files _ (pieces_lack image.text _)))) x

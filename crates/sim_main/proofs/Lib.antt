@@ -1,16 +1,1 @@
-pub mod Endings
-pub mod Loads
-pub mod Breaks
-pub mod Judged
-pub mod RecordLoads
-pub mod Replaying
-pub mod Recorded
-pub mod Runs
-pub mod Leaves
-pub mod Listed
-pub mod Making
-pub mod Prefixes
-pub mod Cuts
-pub mod Far
-pub mod Unique
 pub mod Grown

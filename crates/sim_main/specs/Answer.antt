@@ -1,111 +1,63 @@
--- What the top call answers and leaves.
-use Rattle.std.specs.Prelude.{◌≡◌, ◌⊎◌, ◌-◌, ◌<◌, ◌≤◌, ◌++◌, ℕ, List, [], ◌∷◌, length, map, Contains, IsSome, IfSome, Option, Some, None}
-use Rattle.ss_base.specs.Outside.{Files, bytes_at, BeginsWith, SameFiles, OthersStay, Rose}
+-- What the top call answers and leaves: one relation, and the facts that follow from it.
+use Rattle.std.specs.Prelude.{◌≡◌, ◌⊎◌, ◌<◌, ℕ, List, Option, Some, None, Result}
+use Rattle.ss_base.specs.Outside.{Files, SameFiles}
+use Rattle.journal.specs.declared.fault.Fault.{Fault}
+use Rattle.journal.specs.declared.loading.Found.{Found}
+use Rattle.journal.specs.Write.{GotFront, output_of}
+use Rattle.journal.specs.View.{View, Risen}
+use Rattle.journal.specs.Load.{AreFound}
+use Rattle.journal.specs.Outcome.{Outcome, Comes}
+use Rattle.journal.specs.Texts.{FileFronts}
+use Rattle.journal.specs.Clauses.{IfAnswered}
+use Rattle.answers.specs.declared.answer.Answer.{Answer}
+use Rattle.answers.specs.Sound.{NamesLong}
+use Rattle.run_commands.specs.Outcome.{SimSafeOutcome, RecordOutcome}
+use Rattle.run_commands.specs.Far.{CameToLimit}
+use Rattle.object_commands.specs.Outcome.{AsmOutcome, DisOutcome}
 use Rattle.sim_opts.specs.Request.{Request, SimSafe, Record, Asm, Dis}
 use Rattle.sim_main.specs.declared.ending.Ending.{Ending}
 use Rattle.sim_main.specs.declared.ending.Ending.TheVariants as ending
-use Rattle.sim_main.specs.Ending.{by_ending}
-use Rattle.sim_main.specs.Outcome.{Output, Outcome, HasOutcome, names_of}
-use Rattle.sim_main.specs.Replay.{Replays}
+use Rattle.sim_main.specs.Ending.{ending_of, answer_of}
+use Rattle.sim_main.specs.Outcome.{inputs_of, not_built, ComesBy}
 
--- ---- contents
+-- ---- the one relation
 
--- the bytes of the files that a request loads
-abbrev pub loaded_from : Option Request → Files → List (List ℕ)
-loaded_from request files = map (bytes_at files) (names_of request)
-
--- an answer is the ending of an outcome of loaded files, which holds
-pub record Answers (request : Option Request) (loaded : List (List ℕ)) (e : Ending) (Holds : Outcome → Type 0) : Type 0 where
-  pub outcome : Outcome
-  pub has : HasOutcome request loaded outcome
-  pub ending : e ≡ outcome.ending
-  pub holds : Holds outcome
-
--- an outcome of loaded files of which a fact holds
-pub record OutcomeWith (request : Option Request) (loaded : List (List ℕ)) (Holds : Outcome → Type 0) : Type 0 where
-  pub outcome : Outcome
-  pub has : HasOutcome request loaded outcome
-  pub holds : Holds outcome
-
--- what a command leaves: the whole of its outcome; after a fault or want of memory what was there, or a front of its outcome
-abbrev pub Leaves : Option Request → List (List ℕ) → Ending → (Outcome → Type 0) → Type 0 → (Outcome → Type 0) → Type 0
-Leaves request loaded e Whole Same Front = by_ending e (Answers request loaded e Whole) (Same ⊎ OutcomeWith request loaded Front)
-
--- a file is written whole, and all others stay
-abbrev pub WholeFile : Option Output → Files → Files → Type 0
-WholeFile None old new = SameFiles old new
-WholeFile (Some file) old new = (new file.name ≡ Some file.text) × OthersStay old file.name new
-
--- a file is as before or holds a front of its text, and all others stay
-abbrev pub FileFront : Option Output → Files → Files → Type 0
-FileFront None old new = SameFiles old new
-FileFront (Some file) old new = ((new file.name ≡ old file.name) ⊎ BeginsWith file.text (bytes_at new file.name)) × OthersStay old file.name new
-
--- a stream got a front of bytes
-abbrev pub StreamFront : List ℕ → List ℕ → List ℕ → Type 0
-StreamFront old bytes new = BeginsWith new old × BeginsWith (old ++ bytes) new
-
--- a stream that tells its bytes got these
-abbrev pub Gets : {S : Type 0} → (S → Type 0) → (S → List ℕ) → S → S → List ℕ → Type 0
-Gets tells contents old new bytes = tells old → contents new ≡ contents old ++ bytes
-
-abbrev pub LeavesFiles : Option Request → Files → Files → Ending → Type 0
-LeavesFiles request old new e = Leaves request (loaded_from request old) e (λ o. WholeFile o.file old new) (SameFiles old new) (λ o. FileFront o.file old new)
-
--- the file that was written is the one of an outcome, and where that was recorded, it is replayed
-abbrev pub WritesReplay : Option Request → Files → Files → Ending → Type 0
-WritesReplay request old new e = Answers request (loaded_from request old) e (λ o. WholeFile o.file old new × Replays request (loaded_from request old) o)
-
-abbrev pub LeavesOutput : Option Request → Files → List ℕ → List ℕ → Ending → Type 0
-LeavesOutput request files old new e = Leaves request (loaded_from request files) e (λ o. new ≡ old ++ o.output) (new ≡ old) (λ o. StreamFront old o.output new)
-
-abbrev pub LeavesReport : Option Request → Files → List ℕ → List ℕ → Ending → Type 0
-LeavesReport request files old new e = Leaves request (loaded_from request files) e (λ o. new ≡ old ++ o.report) (new ≡ old) (λ o. StreamFront old o.report new)
+-- an ending is that of what a request came to: it loaded its files, and then wrote the outcome of what was
+-- found in them, from its first write to its last, or up to the write at which a fault ended it
+pub record CameBy {O : Type 0} (v : View O) (a : O) (request : Option Request) (b : O) (e : Ending) : Type 0 where
+  pub came : Result Answer Fault
+  pub ending : e ≡ ending_of came
+  pub comes : Comes v a (inputs_of request) (ComesBy request came) b came
 
 -- ---- how far a command came that gave up
 
--- the most instructions that a request allows; only runs have such a limit
-abbrev pub limit_of : Option Request → Option ℕ
-limit_of None = None
-limit_of (Some (SimSafe commits trace max_inst object args)) = Some max_inst
-limit_of (Some (Record out input files max_inst object args)) = Some max_inst
-limit_of (Some (Asm source object)) = None
-limit_of (Some (Dis object)) = None
+-- each file is as before or holds a front of its text, and the first stream got a front of the output, of an
+-- outcome of which a fact holds
+pub record CameToFront (Has : Outcome Answer → Type 0) (old new : Files) (before now : List ℕ) : Type 0 where
+  pub outcome : Outcome Answer
+  pub has : Has outcome
+  pub files : FileFronts outcome.writes old new
+  pub output : GotFront before (output_of outcome.writes) now
 
--- the same request with another limit, where it has one
-abbrev pub with_limit : ℕ → Option Request → Option Request
-with_limit limit None = None
-with_limit limit (Some (SimSafe commits trace max_inst object args)) = Some (SimSafe commits trace limit object args)
-with_limit limit (Some (Record out input files max_inst object args)) = Some (Record out input files limit object args)
-with_limit limit (Some (Asm source object)) = Some (Asm source object)
-with_limit limit (Some (Dis object)) = Some (Dis object)
+-- of a run, one number of instructions says how far files and output came
+abbrev pub CameFar : Option Request → List Found → Files → Files → List ℕ → List ℕ → Type 0
+CameFar None found old new before now = CameToFront (λ o. o ≡ not_built) old new before now
+CameFar (Some (SimSafe commits trace max_inst object args)) found old new before now = CameToLimit (λ limit o. SimSafeOutcome commits trace limit object args found o) max_inst old new before now
+CameFar (Some (Record out given files max_inst object args)) found old new before now = CameToLimit (λ limit o. RecordOutcome out given files limit object args found o) max_inst old new before now
+CameFar (Some (Asm source object)) found old new before now = CameToFront (λ o. AsmOutcome source object found o) old new before now
+CameFar (Some (Dis object)) found old new before now = CameToFront (λ o. DisOutcome object found o) old new before now
 
--- a command came as far as a limit, which is at most its own where it has one: the file is as before or
--- holds a front of its text, and the first stream got a front of the output, that the same command comes to
--- with this limit; of a run the stream holds all output of a limit one less
-pub record CameTo (request : Option Request) (loaded : List (List ℕ)) (old new : Files) (before now : List ℕ) : Type 0 where
-  pub limit : ℕ
-  pub most : IfSome (limit_of request) (λ max_inst. limit ≤ max_inst)
-  pub front : OutcomeWith (with_limit limit request) loaded (λ o. FileFront o.file old new × StreamFront before o.output now)
-  pub least : IfSome (limit_of request) (λ _. OutcomeWith (with_limit (limit - 1) request) loaded (λ o. BeginsWith now (before ++ o.output)))
+-- what was found in told files, and how far the command came with it
+pub record CameTo (request : Option Request) (old new : Files) (before now : List ℕ) : Type 0 where
+  pub found : List Found
+  pub are : AreFound (Unit {0}) old (inputs_of request) found
+  pub far : CameFar request found old new before now
 
 -- it left all files and the first stream as they were, or came so far
 abbrev pub ComesAsFar : Option Request → Files → Files → List ℕ → List ℕ → Type 0
-ComesAsFar request old new before now = (SameFiles old new × (now ≡ before)) ⊎ CameTo request (loaded_from request old) old new before now
+ComesAsFar request old new before now = (SameFiles old new × (now ≡ before)) ⊎ CameTo request old new before now
 
--- ---- what is known over files that aren't told, too
-
--- an answer is the ending of an outcome of some bytes for each file, which holds; where it was recorded, it
--- is replayed
-pub record EndsByBytes (request : Option Request) (e : Ending) (Holds : Outcome → Type 0) : Type 0 where
-  pub loaded : List (List ℕ)
-  pub one_each : length loaded ≡ length (names_of request)
-  pub answers : Answers request loaded e Holds
-  pub replays : Replays request loaded answers.outcome
-
--- a count of faults rose
-abbrev pub Risen : ℕ → ℕ → Type 0
-Risen before now = (before ≤ now) × Rose before now
+-- ---- counts of faults
 
 -- the counts of the shelf and of both streams: an answer says which of them rose, and that the others did not
 abbrev pub Counts : ℕ × ℕ × ℕ → ℕ × ℕ × ℕ → Ending → Type 0
@@ -128,38 +80,27 @@ pub record TellsGrowth (before now : ℕ × ℕ × ℕ) (e : Ending) : Type 0 wh
   pub prog : before.1 < now.1 → e ≡ ending.SinkFault
   pub stat : before.2 < now.2 → e ≡ ending.SinkFault
 
+-- ---- streams that are left alone
+
 -- nothing is put on the second stream after a fault of the shelf or of the first stream and where a command
--- made an object or a listing, and nothing on the first where a file is refused
-abbrev pub Quiet : {P R : Type 0} → (P → ℕ) → P → P → R → R → Ending → Type 0
-Quiet faults prog prog_now stat stat_now ending.ShelfFault = stat_now ≡ stat
-Quiet faults prog prog_now stat stat_now ending.SinkFault = faults prog < faults prog_now → stat_now ≡ stat
-Quiet faults prog prog_now stat stat_now ending.OutOfMemory = Unit {0}
-Quiet faults prog prog_now stat stat_now (ending.Exited code) = Unit {0}
-Quiet faults prog prog_now stat stat_now ending.Made = stat_now ≡ stat
-Quiet faults prog prog_now stat stat_now (ending.Text line why) = prog_now ≡ prog
-Quiet faults prog prog_now stat stat_now (ending.Object at why) = prog_now ≡ prog
-Quiet faults prog prog_now stat stat_now (ending.Trace at why) = prog_now ≡ prog
-Quiet faults prog prog_now stat stat_now (ending.Stopped why pc icnt) = Unit {0}
-Quiet faults prog prog_now stat stat_now ending.Budget = Unit {0}
-Quiet faults prog prog_now stat stat_now (ending.TooLong name) = prog_now ≡ prog
-Quiet faults prog prog_now stat stat_now (ending.NotBuilt what) = (prog_now ≡ prog) × (stat_now ≡ stat)
+-- made an object or a listing, and nothing on the first where a file is refused; the numbers are the counts of
+-- faults of the first stream
+abbrev pub Quiet : {P R : Type 0} → (before now : ℕ) → P → P → R → R → Ending → Type 0
+Quiet before now prog prog_now stat stat_now ending.ShelfFault = stat_now ≡ stat
+Quiet before now prog prog_now stat stat_now ending.SinkFault = before < now → stat_now ≡ stat
+Quiet before now prog prog_now stat stat_now ending.OutOfMemory = Unit {0}
+Quiet before now prog prog_now stat stat_now (ending.Exited code) = Unit {0}
+Quiet before now prog prog_now stat stat_now ending.Made = stat_now ≡ stat
+Quiet before now prog prog_now stat stat_now (ending.Text line why) = prog_now ≡ prog
+Quiet before now prog prog_now stat stat_now (ending.Object at why) = prog_now ≡ prog
+Quiet before now prog prog_now stat stat_now (ending.Trace at why) = prog_now ≡ prog
+Quiet before now prog prog_now stat stat_now (ending.Stopped why pc icnt) = Unit {0}
+Quiet before now prog prog_now stat stat_now ending.Budget = Unit {0}
+Quiet before now prog prog_now stat stat_now (ending.TooLong name) = prog_now ≡ prog
+Quiet before now prog prog_now stat stat_now (ending.NotBuilt what) = (prog_now ≡ prog) × (stat_now ≡ stat)
+
+-- ---- names
 
 -- a file that is too long is one of these
-abbrev pub NamesLong : List (List ℕ) → Ending → Type 0
-NamesLong names (ending.TooLong name) = Contains names name
-NamesLong names (ending.Exited code) = Unit {0}
-NamesLong names ending.Made = Unit {0}
-NamesLong names (ending.Text line why) = Unit {0}
-NamesLong names (ending.Object at why) = Unit {0}
-NamesLong names (ending.Trace at why) = Unit {0}
-NamesLong names ending.ShelfFault = Unit {0}
-NamesLong names ending.SinkFault = Unit {0}
-NamesLong names ending.OutOfMemory = Unit {0}
-NamesLong names (ending.Stopped why pc icnt) = Unit {0}
-NamesLong names ending.Budget = Unit {0}
-NamesLong names (ending.NotBuilt what) = Unit {0}
-
--- each of these files is held
-abbrev pub AreHeld : Files → List (List ℕ) → Type 0
-AreHeld files [] = Unit {0}
-AreHeld files (name ∷ names) = IsSome (files name) × AreHeld files names
+abbrev pub EndingNames : List (List ℕ) → Ending → Type 0
+EndingNames names e = IfAnswered (answer_of e) (NamesLong names)

@@ -1,9 +1,9 @@
--- How commands end.
-use Rattle.std.specs.Prelude.{ℕ, Bool, true, false}
-use Rattle.pisa_step.specs.declared.cause.Cause.{Cause}
-use Rattle.pisa_step.specs.declared.cause.Cause.TheVariants as cause
-use Rattle.sim_safe.specs.declared.observer.RunEnd.{RunEnd}
-use Rattle.sim_safe.specs.declared.observer.RunEnd.TheVariants as ends
+-- How commands end: an answer, or the fault that ended them.
+use Rattle.std.specs.Prelude.{ℕ, Bool, true, false, Option, Some, None, Result, Ok, Err}
+use Rattle.journal.specs.declared.fault.Fault.{Fault}
+use Rattle.journal.specs.declared.fault.Fault.TheVariants as fault
+use Rattle.answers.specs.declared.answer.Answer.{Answer}
+use Rattle.answers.specs.declared.answer.Answer.TheVariants as answer
 use Rattle.sim_main.specs.declared.ending.Ending.{Ending}
 use Rattle.sim_main.specs.declared.ending.Ending.TheVariants as ending
 
@@ -37,20 +37,41 @@ is_fault (ending.Text line why) = false
 is_fault (ending.TooLong name) = false
 is_fault (ending.NotBuilt what) = false
 
-abbrev pub by_fault : Bool → Type 0 → Type 0 → Type 0
-by_fault false answered given_up = answered
-by_fault true answered given_up = given_up
+-- the ending of an answer
+abbrev pub answer_ending : Answer → Ending
+answer_ending (answer.Exited code) = ending.Exited code
+answer_ending answer.Made = ending.Made
+answer_ending (answer.Object at why) = ending.Object at why
+answer_ending (answer.Trace at why) = ending.Trace at why
+answer_ending (answer.Stopped why pc icnt) = ending.Stopped why pc icnt
+answer_ending answer.Budget = ending.Budget
+answer_ending (answer.Text line why) = ending.Text line why
+answer_ending (answer.TooLong name) = ending.TooLong name
+answer_ending (answer.NotBuilt what) = ending.NotBuilt what
 
--- one fact of an ending that tells of words and files, and another of one that tells of a fault or want of memory
-abbrev pub by_ending : Ending → Type 0 → Type 0 → Type 0
-by_ending e answered given_up = by_fault (is_fault e) answered given_up
+-- the ending of a fault
+abbrev pub fault_ending : Fault → Ending
+fault_ending fault.Shelf = ending.ShelfFault
+fault_ending fault.Prog = ending.SinkFault
+fault_ending fault.Stat = ending.SinkFault
+fault_ending fault.OutOfMemory = ending.OutOfMemory
 
--- a stop of a run; an exit is one too
-abbrev pub stop_ending : Cause → ℕ → ℕ → Ending
-stop_ending (cause.Exited code) pc icnt = ending.Exited code
-stop_ending why pc icnt = ending.Stopped why pc icnt
+-- the ending of what a command came to
+abbrev pub ending_of : Result Answer Fault → Ending
+ending_of (Ok a) = answer_ending a
+ending_of (Err f) = fault_ending f
 
--- the end of a run, at an address after some instructions
-abbrev pub ending_of : RunEnd → ℕ → ℕ → Ending
-ending_of ends.Limit pc icnt = ending.Budget
-ending_of (ends.Stop why) pc icnt = stop_ending why pc icnt
+-- the answer of an ending that tells of no fault
+abbrev pub answer_of : Ending → Option Answer
+answer_of (ending.Exited code) = Some (answer.Exited code)
+answer_of ending.Made = Some answer.Made
+answer_of (ending.Object at why) = Some (answer.Object at why)
+answer_of (ending.Trace at why) = Some (answer.Trace at why)
+answer_of (ending.Stopped why pc icnt) = Some (answer.Stopped why pc icnt)
+answer_of ending.Budget = Some answer.Budget
+answer_of (ending.Text line why) = Some (answer.Text line why)
+answer_of (ending.TooLong name) = Some (answer.TooLong name)
+answer_of (ending.NotBuilt what) = Some (answer.NotBuilt what)
+answer_of ending.ShelfFault = None
+answer_of ending.SinkFault = None
+answer_of ending.OutOfMemory = None

@@ -1,9 +1,7 @@
 pub mod Ending
-pub mod Report
-pub mod Listing
 pub mod Outcome
-pub mod Replay
 pub mod Answer
-pub mod Steps
-pub mod Making
-pub mod Recording
+pub mod RunLaws
+pub mod OutcomeLaws
+pub mod EndingLaws
+pub mod FarLaws

@@ -1,20 +1,14 @@
 //! How commands end.
 ghost use Rattle.std.specs.Prelude.{◌≡◌};
-ghost use Rattle.sim_main.specs.Ending.{stop_ending, ending_of};
+ghost use Rattle.sim_main.specs.Ending.{answer_ending, fault_ending, ending_of};
 
+use answers::{Answer, Unbuilt};
 use ecoff_load::ObjectWhy;
 use event_trace::TraceWhy;
+use journal::Fault;
 use pisa_asm::TextWhy;
 use pisa_step::Cause;
-use sim_safe::RunEnd;
 use ss_base::Name;
-
-/// What is not built yet.
-#[derive(Clone, Copy, Debug, PartialEq, Eq)]
-pub enum Unbuilt {
-    /// The words have no shape that is built.
-    Words,
-}
 
 /// How a command ends.
 #[derive(Debug, Drop)]
@@ -79,31 +73,42 @@ impl Ending {
     }
 }
 
-/// The ending of a run that stopped for a cause.
-fn ending_at_stop(cause: Cause, pc: u32, icnt: u64) -> Ending
-    ensures { result ≡ stop_ending cause pc icnt }
-{
-    match cause {
-        Cause::Exited { code } => Ending::Exited { code },
-        Cause::BadFetch
-        | Cause::Illegal
-        | Cause::FloatingPoint { .. }
-        | Cause::Misaligned { .. }
-        | Cause::Overflow
-        | Cause::DivideByZero
-        | Cause::TextWrite { .. }
-        | Cause::Break
-        | Cause::TraceEnd { .. }
-        | Cause::TraceMismatch { .. } => Ending::Stopped { cause, pc, icnt },
+impl From<Answer> for Ending {
+    ghost from_gives = { λ answer ending. ending ≡ answer_ending answer };
+
+    fn from(answer: Answer) -> Ending {
+        match answer {
+            Answer::Exited { code } => Ending::Exited { code },
+            Answer::Made => Ending::Made,
+            Answer::Object { at, why } => Ending::Object { at, why },
+            Answer::Trace { at, why } => Ending::Trace { at, why },
+            Answer::Stopped { cause, pc, icnt } => Ending::Stopped { cause, pc, icnt },
+            Answer::Budget => Ending::Budget,
+            Answer::Text { line, why } => Ending::Text { line, why },
+            Answer::TooLong { name } => Ending::TooLong { name },
+            Answer::NotBuilt { what } => Ending::NotBuilt { what },
+        }
     }
 }
 
-/// The ending of a run that ended at `pc`, after `icnt` instructions.
-pub fn ending_of_run(end: RunEnd, pc: u32, icnt: u64) -> Ending
-    ensures { result ≡ ending_of end pc icnt }
+impl From<Fault> for Ending {
+    ghost from_gives = { λ fault ending. ending ≡ fault_ending fault };
+
+    fn from(fault: Fault) -> Ending {
+        match fault {
+            Fault::Shelf => Ending::ShelfFault,
+            Fault::Prog | Fault::Stat => Ending::SinkFault,
+            Fault::OutOfMemory => Ending::OutOfMemory,
+        }
+    }
+}
+
+/// The ending of what a command came to.
+pub fn ending_by(came: Result<Answer, Fault>) -> Ending
+    ensures { result ≡ ending_of came }
 {
-    match end {
-        RunEnd::Limit => Ending::Budget,
-        RunEnd::Stop(cause) => ending_at_stop(cause, pc, icnt),
+    match came {
+        Ok(answer) => Ending::from(answer),
+        Err(fault) => Ending::from(fault),
     }
 }

@@ -1,23 +1,16 @@
 //! All that the program `pisa` does: the command that the words name, from words to files.
 //!
-//! `simulate` does it over any files and streams. Its contract is the whole outcome: which words and
-//! files are refused and how, how a run ends, what each file and stream holds, also after a fault or
-//! want of memory, and that a failing outside is answered as such.
+//! `simulate` does it over any files and streams. Its contract is one relation, of which the others
+//! are consequences: the command loads its files, what is found in them decides its outcome, and that
+//! is answered and written in one order, or up to the write at which a fault ends it.
 #![tactic(auto)]
 
-mod assembling;
 mod ending;
-mod judging;
-mod listing;
-mod loading;
-mod recorded_files;
-mod recording;
-mod report;
-mod running;
-mod safe;
-#[cfg(test)]
-mod tests;
+mod laws;
+mod request;
 mod top;
 
-pub use ending::{Ending, Unbuilt};
-pub use top::{answers_exclude_each_other, counts_tell, listings_have_each_instruction, simulate};
+pub use answers::Unbuilt;
+pub use ending::Ending;
+pub use laws::{answers_exclude_each_other, counts_tell, each_has_an_outcome};
+pub use top::simulate;

@@ -1,6 +1,6 @@
 mod Steps
 mod Countable
 mod Totals
-mod Items
+pub mod Items
 mod Runs
 mod Recordings

@@ -30,6 +30,13 @@ impl Bytes {
     {
         self.buffer.as_slice()
     }
+
+    /// The bytes as the `Vec` in which they are.
+    pub fn into_vec(self) -> Vec<u8>
+        ensures { result.items ≡ self }
+    {
+        self.buffer
+    }
 }
 
 /// A name that is owned. Contracts see it as the list of its bytes.

@@ -1,26 +1,197 @@
-use Rattle.std.proofs.Common.{Option, subst, sym}
-use Rattle.std.specs.Prelude.{map, string_bytes}
-use Rattle.sim_opts.specs.Request.{Request}
+use Rattle.std.proofs.Common.{◌≡◌, ◌++◌, ◌∙◌, ap, sym, subst, Option}
+use Rattle.std.specs.Prelude.{map, string_bytes, Ok}
+use Rattle.journal.specs.Write.{output_of, report_of}
+use Rattle.journal.specs.View.{counts}
+use Rattle.journal.specs.Parts.{parts_view}
+use Rattle.journal.specs.Texts.{WholeFiles}
+use Rattle.journal.specs.Clauses.{LeavesFiles, LeavesOutput, LeavesReport, OutcomeWith, EndsBy, IfAnswered}
+use Rattle.journal.specs.ClauseLaws.{leaves_files, leaves_output, leaves_report, counts_by, stays}
+use Rattle.answers.specs.declared.answer.Answer.{Answer}
+use Rattle.answers.specs.Sound.{NamesLong, names_of}
 use Rattle.sim_opts.specs.Reading.{request_of}
 use Rattle.sim_main.specs.declared.ending.Ending.{Ending}
-use Rattle.sim_main.specs.Outcome.{IsUnbuilt}
-use Rattle.sim_main.specs.Answer.{EndsByBytes, Gets, WritesReplay}
-use Rattle.sim_main.proofs.Leaves.{unbuilt_ends, unbuilt_replay}
+use Rattle.sim_main.specs.Ending.{ending_of, answer_of, is_fault}
+use Rattle.sim_main.specs.Outcome.{inputs_of, HasOutcome, ComesBy}
+use Rattle.sim_main.specs.Answer.{Counts, Quiet}
+use Rattle.sim_main.specs.OutcomeLaws.{starts_files}
+use Rattle.sim_main.specs.EndingLaws.{answer_told, fault_told, plain, counts_of, memory_by, last_by, quiet_by, ending_by, replay_by, names_told, unbuilt_by, succeeds_by, streams_succeed_by}
+use Rattle.sim_main.specs.FarLaws.{far_by}
 use Rattle.sim_main.proofs.top.simulate.Goals as goal
 
-pub returns-in-Some-Record-clause-ending : goal.returns-in-Some-Record-clause-ending
-returns-in-Some-Record-clause-ending g c = λ a.
-    let P : Option Request → Type 0 = λ request. EndsByBytes request c.record.result (λ o. Gets g.P.Sink.tells g.P.Sink.contents c.args.prog.now c.record.new.prog o.output × Gets g.R.Sink.tells g.R.Sink.contents c.args.stat.now c.record.new.stat o.report) in
-    subst P (rw c.in-Some-Record.field-0-is at c.in-Some-Record.ensures.request) (c.record.ensures.ending a)
-
-pub returns-in-None-clause-replay : goal.returns-in-None-clause-replay
-returns-in-None-clause-replay g c = λ _ _.
+pub returns-clause-comes : goal.returns-clause-comes
+returns-clause-comes g c =
+    let v = parts_view g.H.Shelf.tells g.H.Shelf.calm g.H.Shelf.files g.H.Shelf.faults g.P.Sink.tells g.P.Sink.contents g.P.Sink.faults g.P.Sink.calm g.R.Sink.tells g.R.Sink.contents g.R.Sink.faults g.R.Sink.calm in
+    let old : g.row.H.Denot × g.row.P.Denot × g.row.R.Denot = (c.args.shelf.now, c.args.prog.now, c.args.stat.now) in
+    let new : g.row.H.Denot × g.row.P.Denot × g.row.R.Denot = (c.do_parts.new.shelf, c.do_parts.new.prog, c.do_parts.new.stat) in
     let request = request_of (map string_bytes c.args.words.now) in
-    let files = g.H.Shelf.files c.args.shelf.now in
-    let P : Ending → Type 0 = λ e. WritesReplay request files files e in
-    subst P (sym c.not_built.ensures) (unbuilt_replay request files (subst IsUnbuilt c.in-None.ensures.request tt))
+    let came = c.do_parts.result in
+    let p = c.do_parts.ensures.comes in
+    record { came = came; ending = c.ending_by.ensures; comes = p }
 
-pub returns-in-None-clause-ending : goal.returns-in-None-clause-ending
-returns-in-None-clause-ending g c = λ _.
-    unbuilt_ends g.P.Sink.tells g.P.Sink.contents g.R.Sink.tells g.R.Sink.contents c.args.prog.now c.args.stat.now (request_of (map string_bytes c.args.words.now)) c.not_built.result
-    c.not_built.ensures (subst IsUnbuilt c.in-None.ensures.request tt)
+pub returns-clause-files : goal.returns-clause-files
+returns-clause-files g c = λ t.
+    let v = parts_view g.H.Shelf.tells g.H.Shelf.calm g.H.Shelf.files g.H.Shelf.faults g.P.Sink.tells g.P.Sink.contents g.P.Sink.faults g.P.Sink.calm g.R.Sink.tells g.R.Sink.contents g.R.Sink.faults g.R.Sink.calm in
+    let old : g.row.H.Denot × g.row.P.Denot × g.row.R.Denot = (c.args.shelf.now, c.args.prog.now, c.args.stat.now) in
+    let new : g.row.H.Denot × g.row.P.Denot × g.row.R.Denot = (c.do_parts.new.shelf, c.do_parts.new.prog, c.do_parts.new.stat) in
+    let request = request_of (map string_bytes c.args.words.now) in
+    let came = c.do_parts.result in
+    let p = c.do_parts.ensures.comes in
+    let q = plain v old new request came p in
+    let told = sym (ap answer_of c.ending_by.ensures ∙ answer_told came) in
+    subst (λ (x : Option Answer). LeavesFiles (inputs_of request) (HasOutcome request) (v.files old) (v.files new) x) told (leaves_files v old new (inputs_of request) (HasOutcome request) came (starts_files request) t q)
+
+pub returns-clause-prog : goal.returns-clause-prog
+returns-clause-prog g c = λ t u.
+    let v = parts_view g.H.Shelf.tells g.H.Shelf.calm g.H.Shelf.files g.H.Shelf.faults g.P.Sink.tells g.P.Sink.contents g.P.Sink.faults g.P.Sink.calm g.R.Sink.tells g.R.Sink.contents g.R.Sink.faults g.R.Sink.calm in
+    let old : g.row.H.Denot × g.row.P.Denot × g.row.R.Denot = (c.args.shelf.now, c.args.prog.now, c.args.stat.now) in
+    let new : g.row.H.Denot × g.row.P.Denot × g.row.R.Denot = (c.do_parts.new.shelf, c.do_parts.new.prog, c.do_parts.new.stat) in
+    let request = request_of (map string_bytes c.args.words.now) in
+    let came = c.do_parts.result in
+    let p = c.do_parts.ensures.comes in
+    let q = plain v old new request came p in
+    let told = sym (ap answer_of c.ending_by.ensures ∙ answer_told came) in
+    subst (λ (x : Option Answer). LeavesOutput (inputs_of request) (HasOutcome request) (v.files old) (v.prog.contents old) (v.prog.contents new) x) told (leaves_output v old new (inputs_of request) (HasOutcome request) came t u q)
+
+pub returns-clause-stat : goal.returns-clause-stat
+returns-clause-stat g c = λ t u.
+    let v = parts_view g.H.Shelf.tells g.H.Shelf.calm g.H.Shelf.files g.H.Shelf.faults g.P.Sink.tells g.P.Sink.contents g.P.Sink.faults g.P.Sink.calm g.R.Sink.tells g.R.Sink.contents g.R.Sink.faults g.R.Sink.calm in
+    let old : g.row.H.Denot × g.row.P.Denot × g.row.R.Denot = (c.args.shelf.now, c.args.prog.now, c.args.stat.now) in
+    let new : g.row.H.Denot × g.row.P.Denot × g.row.R.Denot = (c.do_parts.new.shelf, c.do_parts.new.prog, c.do_parts.new.stat) in
+    let request = request_of (map string_bytes c.args.words.now) in
+    let came = c.do_parts.result in
+    let p = c.do_parts.ensures.comes in
+    let q = plain v old new request came p in
+    let told = sym (ap answer_of c.ending_by.ensures ∙ answer_told came) in
+    subst (λ (x : Option Answer). LeavesReport (inputs_of request) (HasOutcome request) (v.files old) (v.stat.contents old) (v.stat.contents new) x) told (leaves_report v old new (inputs_of request) (HasOutcome request) came t u q)
+
+pub returns-clause-together : goal.returns-clause-together
+returns-clause-together g c = λ t u n.
+    let v = parts_view g.H.Shelf.tells g.H.Shelf.calm g.H.Shelf.files g.H.Shelf.faults g.P.Sink.tells g.P.Sink.contents g.P.Sink.faults g.P.Sink.calm g.R.Sink.tells g.R.Sink.contents g.R.Sink.faults g.R.Sink.calm in
+    let old : g.row.H.Denot × g.row.P.Denot × g.row.R.Denot = (c.args.shelf.now, c.args.prog.now, c.args.stat.now) in
+    let new : g.row.H.Denot × g.row.P.Denot × g.row.R.Denot = (c.do_parts.new.shelf, c.do_parts.new.prog, c.do_parts.new.stat) in
+    let request = request_of (map string_bytes c.args.words.now) in
+    let came = c.do_parts.result in
+    let p = c.do_parts.ensures.comes in
+    let q = plain v old new request came p in
+    far_by v old new request came t u (fault_told came (sym (ap is_fault c.ending_by.ensures) ∙ n)) q
+
+pub returns-clause-memory : goal.returns-clause-memory
+returns-clause-memory g c = λ t e.
+    let v = parts_view g.H.Shelf.tells g.H.Shelf.calm g.H.Shelf.files g.H.Shelf.faults g.P.Sink.tells g.P.Sink.contents g.P.Sink.faults g.P.Sink.calm g.R.Sink.tells g.R.Sink.contents g.R.Sink.faults g.R.Sink.calm in
+    let old : g.row.H.Denot × g.row.P.Denot × g.row.R.Denot = (c.args.shelf.now, c.args.prog.now, c.args.stat.now) in
+    let new : g.row.H.Denot × g.row.P.Denot × g.row.R.Denot = (c.do_parts.new.shelf, c.do_parts.new.prog, c.do_parts.new.stat) in
+    let request = request_of (map string_bytes c.args.words.now) in
+    let came = c.do_parts.result in
+    let p = c.do_parts.ensures.comes in
+    let q = plain v old new request came p in
+    memory_by v old new request came t (sym c.ending_by.ensures ∙ e) q
+
+pub returns-clause-replay : goal.returns-clause-replay
+returns-clause-replay g c = λ t.
+    let v = parts_view g.H.Shelf.tells g.H.Shelf.calm g.H.Shelf.files g.H.Shelf.faults g.P.Sink.tells g.P.Sink.contents g.P.Sink.faults g.P.Sink.calm g.R.Sink.tells g.R.Sink.contents g.R.Sink.faults g.R.Sink.calm in
+    let old : g.row.H.Denot × g.row.P.Denot × g.row.R.Denot = (c.args.shelf.now, c.args.prog.now, c.args.stat.now) in
+    let new : g.row.H.Denot × g.row.P.Denot × g.row.R.Denot = (c.do_parts.new.shelf, c.do_parts.new.prog, c.do_parts.new.stat) in
+    let request = request_of (map string_bytes c.args.words.now) in
+    let came = c.do_parts.result in
+    let p = c.do_parts.ensures.comes in
+    let told = sym (ap answer_of c.ending_by.ensures ∙ answer_told came) in
+    subst (λ (x : Option Answer). IfAnswered x (λ a. OutcomeWith (v.files old) (inputs_of request) (ComesBy request (Ok a)) (λ o. (a ≡ o.ending) × WholeFiles o.writes (v.files old) (v.files new)))) told (replay_by v old new request came t p)
+
+pub returns-clause-last : goal.returns-clause-last
+returns-clause-last g c = λ t grown.
+    let v = parts_view g.H.Shelf.tells g.H.Shelf.calm g.H.Shelf.files g.H.Shelf.faults g.P.Sink.tells g.P.Sink.contents g.P.Sink.faults g.P.Sink.calm g.R.Sink.tells g.R.Sink.contents g.R.Sink.faults g.R.Sink.calm in
+    let old : g.row.H.Denot × g.row.P.Denot × g.row.R.Denot = (c.args.shelf.now, c.args.prog.now, c.args.stat.now) in
+    let new : g.row.H.Denot × g.row.P.Denot × g.row.R.Denot = (c.do_parts.new.shelf, c.do_parts.new.prog, c.do_parts.new.stat) in
+    let request = request_of (map string_bytes c.args.words.now) in
+    let came = c.do_parts.result in
+    let p = c.do_parts.ensures.comes in
+    let q = plain v old new request came p in
+    last_by v old new request came t grown q
+
+pub returns-clause-ending : goal.returns-clause-ending
+returns-clause-ending g c =
+    let v = parts_view g.H.Shelf.tells g.H.Shelf.calm g.H.Shelf.files g.H.Shelf.faults g.P.Sink.tells g.P.Sink.contents g.P.Sink.faults g.P.Sink.calm g.R.Sink.tells g.R.Sink.contents g.R.Sink.faults g.R.Sink.calm in
+    let old : g.row.H.Denot × g.row.P.Denot × g.row.R.Denot = (c.args.shelf.now, c.args.prog.now, c.args.stat.now) in
+    let new : g.row.H.Denot × g.row.P.Denot × g.row.R.Denot = (c.do_parts.new.shelf, c.do_parts.new.prog, c.do_parts.new.stat) in
+    let request = request_of (map string_bytes c.args.words.now) in
+    let came = c.do_parts.result in
+    let p = c.do_parts.ensures.comes in
+    let told = sym (ap answer_of c.ending_by.ensures ∙ answer_told came) in
+    subst (λ (x : Option Answer). IfAnswered x (λ a. EndsBy (v.tells old) (v.files old) (inputs_of request) (ComesBy request (Ok a)) a (λ o. (v.prog.tells old → v.prog.contents new ≡ v.prog.contents old ++ output_of o.writes) × (v.stat.tells old → v.stat.contents new ≡ v.stat.contents old ++ report_of o.writes)))) told (ending_by v old new request came p)
+
+pub returns-clause-words : goal.returns-clause-words
+returns-clause-words g c =
+    let v = parts_view g.H.Shelf.tells g.H.Shelf.calm g.H.Shelf.files g.H.Shelf.faults g.P.Sink.tells g.P.Sink.contents g.P.Sink.faults g.P.Sink.calm g.R.Sink.tells g.R.Sink.contents g.R.Sink.faults g.R.Sink.calm in
+    let old : g.row.H.Denot × g.row.P.Denot × g.row.R.Denot = (c.args.shelf.now, c.args.prog.now, c.args.stat.now) in
+    let new : g.row.H.Denot × g.row.P.Denot × g.row.R.Denot = (c.do_parts.new.shelf, c.do_parts.new.prog, c.do_parts.new.stat) in
+    let request = request_of (map string_bytes c.args.words.now) in
+    let came = c.do_parts.result in
+    let p = c.do_parts.ensures.comes in
+    let q = plain v old new request came p in
+    (λ e. unbuilt_by v old new request came q (sym c.ending_by.ensures ∙ e), λ u. c.ending_by.ensures ∙ ap ending_of (c.do_parts.ensures.unbuilt u))
+
+pub returns-clause-names : goal.returns-clause-names
+returns-clause-names g c =
+    let v = parts_view g.H.Shelf.tells g.H.Shelf.calm g.H.Shelf.files g.H.Shelf.faults g.P.Sink.tells g.P.Sink.contents g.P.Sink.faults g.P.Sink.calm g.R.Sink.tells g.R.Sink.contents g.R.Sink.faults g.R.Sink.calm in
+    let old : g.row.H.Denot × g.row.P.Denot × g.row.R.Denot = (c.args.shelf.now, c.args.prog.now, c.args.stat.now) in
+    let new : g.row.H.Denot × g.row.P.Denot × g.row.R.Denot = (c.do_parts.new.shelf, c.do_parts.new.prog, c.do_parts.new.stat) in
+    let request = request_of (map string_bytes c.args.words.now) in
+    let came = c.do_parts.result in
+    let p = c.do_parts.ensures.comes in
+    let q = plain v old new request came p in
+    let told = sym (ap answer_of c.ending_by.ensures ∙ answer_told came) in
+    subst (λ (x : Option Answer). IfAnswered x (NamesLong (names_of (inputs_of request)))) told (names_told v old new request came q)
+
+pub returns-clause-count : goal.returns-clause-count
+returns-clause-count g c =
+    let v = parts_view g.H.Shelf.tells g.H.Shelf.calm g.H.Shelf.files g.H.Shelf.faults g.P.Sink.tells g.P.Sink.contents g.P.Sink.faults g.P.Sink.calm g.R.Sink.tells g.R.Sink.contents g.R.Sink.faults g.R.Sink.calm in
+    let old : g.row.H.Denot × g.row.P.Denot × g.row.R.Denot = (c.args.shelf.now, c.args.prog.now, c.args.stat.now) in
+    let new : g.row.H.Denot × g.row.P.Denot × g.row.R.Denot = (c.do_parts.new.shelf, c.do_parts.new.prog, c.do_parts.new.stat) in
+    let request = request_of (map string_bytes c.args.words.now) in
+    let came = c.do_parts.result in
+    let p = c.do_parts.ensures.comes in
+    let q = plain v old new request came p in
+    subst (λ (x : Ending). Counts (counts v old) (counts v new) x) (sym c.ending_by.ensures) (counts_of (counts v old) (counts v new) came (counts_by v old new (inputs_of request) (HasOutcome request) came q))
+
+pub returns-clause-quiet : goal.returns-clause-quiet
+returns-clause-quiet g c =
+    let v = parts_view g.H.Shelf.tells g.H.Shelf.calm g.H.Shelf.files g.H.Shelf.faults g.P.Sink.tells g.P.Sink.contents g.P.Sink.faults g.P.Sink.calm g.R.Sink.tells g.R.Sink.contents g.R.Sink.faults g.R.Sink.calm in
+    let old : g.row.H.Denot × g.row.P.Denot × g.row.R.Denot = (c.args.shelf.now, c.args.prog.now, c.args.stat.now) in
+    let new : g.row.H.Denot × g.row.P.Denot × g.row.R.Denot = (c.do_parts.new.shelf, c.do_parts.new.prog, c.do_parts.new.stat) in
+    let request = request_of (map string_bytes c.args.words.now) in
+    let came = c.do_parts.result in
+    let p = c.do_parts.ensures.comes in
+    let q = plain v old new request came p in
+    subst (λ (x : Ending). Quiet (v.prog.faults old) (v.prog.faults new) old.1 new.1 old.2 new.2 x) (sym c.ending_by.ensures) (quiet_by v old new request came q)
+
+pub returns-clause-stays : goal.returns-clause-stays
+returns-clause-stays g c =
+    let v = parts_view g.H.Shelf.tells g.H.Shelf.calm g.H.Shelf.files g.H.Shelf.faults g.P.Sink.tells g.P.Sink.contents g.P.Sink.faults g.P.Sink.calm g.R.Sink.tells g.R.Sink.contents g.R.Sink.faults g.R.Sink.calm in
+    let old : g.row.H.Denot × g.row.P.Denot × g.row.R.Denot = (c.args.shelf.now, c.args.prog.now, c.args.stat.now) in
+    let new : g.row.H.Denot × g.row.P.Denot × g.row.R.Denot = (c.do_parts.new.shelf, c.do_parts.new.prog, c.do_parts.new.stat) in
+    let request = request_of (map string_bytes c.args.words.now) in
+    let came = c.do_parts.result in
+    let p = c.do_parts.ensures.comes in
+    stays v old new (inputs_of request) (ComesBy request came) came p
+
+pub returns-clause-succeeds : goal.returns-clause-succeeds
+returns-clause-succeeds g c = λ k t h e.
+    let v = parts_view g.H.Shelf.tells g.H.Shelf.calm g.H.Shelf.files g.H.Shelf.faults g.P.Sink.tells g.P.Sink.contents g.P.Sink.faults g.P.Sink.calm g.R.Sink.tells g.R.Sink.contents g.R.Sink.faults g.R.Sink.calm in
+    let old : g.row.H.Denot × g.row.P.Denot × g.row.R.Denot = (c.args.shelf.now, c.args.prog.now, c.args.stat.now) in
+    let new : g.row.H.Denot × g.row.P.Denot × g.row.R.Denot = (c.do_parts.new.shelf, c.do_parts.new.prog, c.do_parts.new.stat) in
+    let request = request_of (map string_bytes c.args.words.now) in
+    let came = c.do_parts.result in
+    let p = c.do_parts.ensures.comes in
+    let q = plain v old new request came p in
+    succeeds_by v old new request came k t h q (sym c.ending_by.ensures ∙ e)
+
+pub returns-clause-streams_succeed : goal.returns-clause-streams_succeed
+returns-clause-streams_succeed g c = λ k l e.
+    let v = parts_view g.H.Shelf.tells g.H.Shelf.calm g.H.Shelf.files g.H.Shelf.faults g.P.Sink.tells g.P.Sink.contents g.P.Sink.faults g.P.Sink.calm g.R.Sink.tells g.R.Sink.contents g.R.Sink.faults g.R.Sink.calm in
+    let old : g.row.H.Denot × g.row.P.Denot × g.row.R.Denot = (c.args.shelf.now, c.args.prog.now, c.args.stat.now) in
+    let new : g.row.H.Denot × g.row.P.Denot × g.row.R.Denot = (c.do_parts.new.shelf, c.do_parts.new.prog, c.do_parts.new.stat) in
+    let request = request_of (map string_bytes c.args.words.now) in
+    let came = c.do_parts.result in
+    let p = c.do_parts.ensures.comes in
+    let q = plain v old new request came p in
+    streams_succeed_by v old new request came k l q (sym c.ending_by.ensures ∙ e)

@@ -1,0 +1,81 @@
+-- What comes of a recording, by what its parts came to.
+use Rattle.std.proofs.Common.{◌≡◌, ℕ, List, [], ◌∷◌, Option, Some, Result, Ok, Err, refl, sym, ap, subst}
+use Rattle.std.specs.Prelude.{map, string_bytes, option_copied, OnOk, Vec, String, unwrap_or}
+use Rattle.ecoff_load.specs.declared.image.Image.{Image}
+use Rattle.ecoff_load.specs.Object.{IsObject}
+use Rattle.event_trace.specs.Grammar.{IsTrace}
+use Rattle.event_trace.specs.World.{File, files_of}
+use Rattle.sim_opts.specs.declared.request.Record.{Record}
+use Rattle.journal.specs.declared.fault.Fault.{Fault}
+use Rattle.journal.specs.declared.loading.Found.TheVariants as found
+use Rattle.journal.specs.View.{View, Wrote}
+use Rattle.journal.specs.Load.{input, Finds}
+use Rattle.journal.specs.Outcome.{Outcome, Ends, Comes}
+use Rattle.journal.specs.Loading.{comes_after, comes_now}
+use Rattle.answers.specs.declared.answer.Answer.{Answer}
+use Rattle.answers.specs.declared.answer.Answer.TheVariants as answer
+use Rattle.answers.specs.Answer.{refused}
+use Rattle.answers.specs.JudgingLaws.{object_judged}
+use Rattle.run_commands.specs.declared.world.Enclosed.{Enclosed}
+use Rattle.run_commands.specs.Outcome.{input_limit, named_input, object_limit, opened_inputs, record_inputs, world_of}
+use Rattle.run_commands.specs.Replay.{IsRecorded}
+use Rattle.run_commands.specs.Parts.{AreWhole, OneLong, GivenRecords, LoadedRecords, ObjectRecords, RecordingOutcomeOf, enclosed, made_for, names_in, record_inputs_of, recorded_of}
+use Rattle.run_commands.proofs.OneByOne.{each_comes, long_comes}
+use Rattle.run_commands.proofs.Named.{named_found, named_long}
+use Rattle.run_commands.proofs.Replaying.{is_recorded}
+
+-- all files are loaded, and the object is one of an image
+pub loaded_comes : {O : Type 0} (v : View O) (a b : O) (r : Record) (object given : List ℕ) (files : List File) (image : Image) (p : Enclosed) (result : Result Answer Fault) → p ≡ enclosed given files image
+    → IsObject object image → OnOk result (IsTrace (made_for r p).0) → Ends v a (recorded_of r p) b result → Comes v a [] (λ _. LoadedRecords r object given files result) b result
+loaded_comes v a b r object given files image p result e is valid rest =
+    let q = enclosed given files image in
+    let args = map string_bytes r.args.now in
+    let valid2 = subst (λ x. OnOk result (IsTrace (made_for r x).0)) e valid in
+    let rest2 = subst (λ x. Ends v a (recorded_of r x) b result) e rest in
+    comes_now v a [] b (λ _. LoadedRecords r object given files result) (recorded_of r q) result
+    (λ _. object_judged object (recorded_of r q) (λ i. IsRecorded r.out.now r.max_inst r.object.now args result (recorded_of r q) object i (world_of given files i)) image is
+    (is_recorded r.out.now r.max_inst r.object.now args result object image (world_of given files image) is valid2))
+    rest2
+
+-- the files that it can open are loaded
+pub given_comes : {O : Type 0} (v : View O) (a b c : O) (r : Record) (object given : List ℕ) (names : List (List ℕ)) (files : List File) (result : Result Answer Fault) → names ≡ names_in r
+    → Wrote v a [] b → AreWhole (v.tells a) (v.files a) names files → Comes v b [] (λ _. LoadedRecords r object given files result) c result → Comes v a (opened_inputs (names_in r)) (GivenRecords r object given result) c result
+given_comes v a b c r object given names files result e wrote whole rest =
+    each_comes v a b c (names_in r) files (λ opened. LoadedRecords r object given opened result) result wrote (subst (λ x. AreWhole (v.tells a) (v.files a) x files) e whole) rest
+
+-- or one of them is too long
+pub given_long : {O : Type 0} (v : View O) (a b c : O) (r : Record) (object given : List ℕ) (names : List (List ℕ)) (name : List ℕ) (result : Result Answer Fault) → names ≡ names_in r
+    → Wrote v a [] b → OneLong (v.tells a) (v.files a) names name → Ends v b (refused (answer.TooLong name)) c result → Comes v a (opened_inputs (names_in r)) (GivenRecords r object given result) c result
+given_long v a b c r object given names name result e wrote long rest =
+    long_comes v a b c (names_in r) name (λ opened. LoadedRecords r object given opened result) result wrote (subst (λ x. OneLong (v.tells a) (v.files a) x name) e long) rest
+
+-- the input is loaded
+pub object_comes : {O : Type 0} (v : View O) (a b c : O) (r : Record) (object name bytes given : List ℕ) (result : Result Answer Fault) → option_copied r.input ≡ Some name → given ≡ bytes
+    → Finds v a (input name input_limit) b (Ok (found.Whole bytes)) → Comes v b (opened_inputs (names_in r)) (GivenRecords r object given result) c result
+    → Comes v a (named_input input_limit (option_copied r.input) (opened_inputs (names_in r))) (ObjectRecords r object result) c result
+object_comes v a b c r object name bytes given result e same finds rest =
+    named_found v a b c input_limit (option_copied r.input) name bytes (opened_inputs (names_in r)) (λ x others o. GivenRecords r object (unwrap_or x []) result others o) result e finds
+    (subst (λ x. Comes v b (opened_inputs (names_in r)) (GivenRecords r object x result) c result) same rest)
+
+-- or it is too long
+pub object_long : {O : Type 0} (v : View O) (a b c : O) (r : Record) (object name : List ℕ) (result : Result Answer Fault) → option_copied r.input ≡ Some name
+    → Finds v a (input name input_limit) b (Ok found.TooLong) → Ends v b (refused (answer.TooLong name)) c result
+    → Comes v a (named_input input_limit (option_copied r.input) (opened_inputs (names_in r))) (ObjectRecords r object result) c result
+object_long v a b c r object name result e finds rest =
+    named_long v a b c input_limit (option_copied r.input) name (opened_inputs (names_in r)) (λ x others o. GivenRecords r object (unwrap_or x []) result others o) result e finds rest
+
+-- the object is loaded
+pub record_comes : {O : Type 0} (v : View O) (a b c : O) (r : Record) (object bytes : List ℕ) (result : Result Answer Fault) → bytes ≡ object
+    → Finds v a (input r.object.now object_limit) b (Ok (found.Whole object)) → Comes v b (named_input input_limit (option_copied r.input) (opened_inputs (names_in r))) (ObjectRecords r bytes result) c result
+    → Comes v a (record_inputs_of r) (RecordingOutcomeOf r result) c result
+record_comes v a b c r object bytes result e finds rest =
+    let others = named_input input_limit (option_copied r.input) (opened_inputs (names_in r)) in
+    comes_after v a b c (input r.object.now object_limit) others (found.Whole object) (RecordingOutcomeOf r result) result finds (subst (λ x. Comes v b others (ObjectRecords r x result) c result) e rest)
+
+-- or it is too long
+pub record_long : {O : Type 0} (v : View O) (a b c : O) (r : Record) (result : Result Answer Fault)
+    → Finds v a (input r.object.now object_limit) b (Ok found.TooLong) → Ends v b (refused (answer.TooLong r.object.now)) c result → Comes v a (record_inputs_of r) (RecordingOutcomeOf r result) c result
+record_long v a b c r result finds rest =
+    let others = named_input input_limit (option_copied r.input) (opened_inputs (names_in r)) in
+    comes_after v a b c (input r.object.now object_limit) others found.TooLong (RecordingOutcomeOf r result) result finds
+    (comes_now v b others c (λ fs. RecordingOutcomeOf r result (found.TooLong ∷ fs)) (refused (answer.TooLong r.object.now)) result (λ fs. refl) rest)

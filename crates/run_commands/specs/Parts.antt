@@ -1,0 +1,126 @@
+-- What the parts of the commands say of each other.
+use Rattle.std.specs.Prelude.{◌≡◌, ◌++◌, ℕ, Bool, List, [], ◌∷◌, map, string_bytes, Option, Some, None, option_copied, unwrap_or, Result, Ok, Err}
+use Rattle.ss_base.specs.Outside.{Files}
+use Rattle.ecoff_load.specs.declared.image.Image.{Image}
+use Rattle.ecoff_load.specs.Object.{IsObject, IsImage}
+use Rattle.event_trace.specs.declared.trace.Trace.{Trace}
+use Rattle.event_trace.specs.World.{File, files_of}
+use Rattle.sim_safe.specs.declared.observer.RunEnd.{RunEnd}
+use Rattle.sim_safe.specs.declared.observer.RunEnd.TheVariants as ends
+use Rattle.sim_safe.specs.declared.recording.RecordEnd.{RecordEnd}
+use Rattle.sim_safe.specs.declared.recording.RecordEnd.TheVariants as record_ends
+use Rattle.sim_safe.specs.State.{start_state}
+use Rattle.sim_safe.specs.Record.{IsRunTrace}
+use Rattle.sim_opts.specs.declared.request.SimSafe.{SimSafe}
+use Rattle.sim_opts.specs.declared.request.Record.{Record}
+use Rattle.journal.specs.declared.fault.Fault.{Fault}
+use Rattle.journal.specs.declared.loading.Found.{Found}
+use Rattle.journal.specs.declared.loading.Found.TheVariants as found
+use Rattle.journal.specs.View.{View, Wrote}
+use Rattle.journal.specs.Load.{Input, input, IsFound, GaveUpLoading}
+use Rattle.journal.specs.Outcome.{Outcome}
+use Rattle.answers.specs.declared.answer.Answer.{Answer}
+use Rattle.answers.specs.declared.refusal.Refusal.{Refusal}
+use Rattle.answers.specs.Judging.{LoadsEach, LoadsNamed, JudgesObject, JudgesGiven, IsGiven, Judges}
+use Rattle.run_commands.specs.declared.judging.Program.{Program}
+use Rattle.run_commands.specs.declared.opening.Opened.{Opened}
+use Rattle.run_commands.specs.declared.opening.Opened.TheVariants as opened
+use Rattle.run_commands.specs.declared.world.Enclosed.{Enclosed}
+use Rattle.run_commands.specs.Outcome.{SimSafeOutcome, input_limit, opened_inputs, ran, recorded, sim_safe_inputs, record_inputs, start_break, world_of}
+use Rattle.run_commands.specs.Replay.{IsRecorded, RecordingOutcome, made_by}
+
+-- ---- requests
+
+abbrev pub sim_safe_inputs_of : SimSafe → List Input
+sim_safe_inputs_of r = sim_safe_inputs (option_copied r.trace) r.object.now
+
+abbrev pub SimSafeOutcomeOf : SimSafe → List Found → Outcome Answer → Type 0
+SimSafeOutcomeOf r loaded o = SimSafeOutcome (option_copied r.commits) (option_copied r.trace) r.max_inst r.object.now (map string_bytes r.args.now) loaded o
+
+abbrev pub names_in : Record → List (List ℕ)
+names_in r = map (λ name. name.now) r.files.items
+
+abbrev pub record_inputs_of : Record → List Input
+record_inputs_of r = record_inputs (option_copied r.input) (names_in r) r.object.now
+
+abbrev pub RecordingOutcomeOf : {F : Type 0} → Record → Result Answer F → List Found → Outcome Answer → Type 0
+RecordingOutcomeOf r result loaded o = RecordingOutcome r.out.now (option_copied r.input) (names_in r) r.max_inst r.object.now (map string_bytes r.args.now) result loaded o
+
+-- ---- what is run
+
+-- what can be run
+pub record CanRun (p : Program) : Type 0 where
+  pub image : IsImage p.image
+  pub trace : IsRunTrace p.trace
+
+-- an object and the trace beside it, if there is one, are judged
+abbrev pub JudgesProgram : List ℕ → Option (List ℕ) → Result Program Refusal → Type 0
+JudgesProgram object calls result =
+    Judges result (λ p. IsObject object p.image × IsGiven calls p.image.text.big p.trace)
+    (λ o. JudgesObject object o (λ image. JudgesGiven calls image.text.big o (λ _. ⊥)))
+
+-- the run that a request asks for
+abbrev pub run_of : SimSafe → Program → Outcome Answer
+run_of r p = ran p.trace r.max_inst (start_state p.image (map string_bytes r.args.now)) (option_copied r.commits)
+
+-- what comes of it where the object is loaded, and where the trace is, too
+abbrev pub ObjectRuns : SimSafe → List ℕ → List Found → Outcome Answer → Type 0
+ObjectRuns r program loaded o = LoadsNamed (option_copied r.trace) loaded o (λ calls _. JudgesObject program o (λ image. JudgesGiven calls image.text.big o (λ given. o ≡ run_of r (record { image = image; trace = given }))))
+
+abbrev pub LoadedRuns : SimSafe → List ℕ → Option (List ℕ) → Outcome Answer → Type 0
+LoadedRuns r program calls o = JudgesObject program o (λ image. JudgesGiven calls image.text.big o (λ given. o ≡ run_of r (record { image = image; trace = given })))
+
+-- ---- files that a program can open
+
+-- each of these files was found whole, and has its name
+abbrev pub AreWhole : Type 0 → Files → List (List ℕ) → List File → Type 0
+AreWhole Told held [] [] = Unit {0}
+AreWhole Told held [] (f ∷ fs) = ⊥
+AreWhole Told held (name ∷ names) [] = ⊥
+AreWhole Told held (name ∷ names) (f ∷ fs) = (f.name ≡ name) × IsFound Told held (input name input_limit) (found.Whole f.bytes) × AreWhole Told held names fs
+
+-- one of these files is too long, and those before it were found whole
+pub record OneLong (Told : Type 0) (held : Files) (names : List (List ℕ)) (name : List ℕ) : Type 0 where
+  pub before : List (List ℕ)
+  pub files : List File
+  pub after : List (List ℕ)
+  pub all : names ≡ before ++ name ∷ after
+  pub whole : AreWhole Told held before files
+  pub long : IsFound Told held (input name input_limit) found.TooLong
+
+-- files are found one after the other, up to the first that is too long
+abbrev pub FindsEach : {O : Type 0} → View O → O → List (List ℕ) → O → Result Opened Fault → Type 0
+FindsEach v a names b (Ok (opened.Whole files)) = Wrote v a [] b × AreWhole (v.tells a) (v.files a) names (files_of files.items)
+FindsEach v a names b (Ok (opened.TooLong name)) = Wrote v a [] b × OneLong (v.tells a) (v.files a) names name.now
+FindsEach v a names b (Err f) = GaveUpLoading v a (opened_inputs names) f b
+
+-- ---- what is recorded
+
+-- a program in the world of its input and of the files that it can open
+abbrev pub enclosed : List ℕ → List File → Image → Enclosed
+enclosed given files image = record { image = image; world = world_of given files image }
+
+-- the recorded run that a request asks for
+abbrev pub recorded_of : Record → Enclosed → Outcome Answer
+recorded_of r p = recorded p.world p.image.text.big r.max_inst (start_state p.image (map string_bytes r.args.now)) r.out.now
+
+-- the trace of that run, and whether it is full
+abbrev pub made_for : Record → Enclosed → Trace × Bool
+made_for r p = made_by p.image p.world r.max_inst (map string_bytes r.args.now)
+
+-- what comes of a recording where all files are loaded; where the object and the input are; and where the
+-- object is
+abbrev pub LoadedRecords : {F : Type 0} → Record → List ℕ → List ℕ → List File → Result Answer F → Outcome Answer → Type 0
+LoadedRecords r program given files result o =
+    JudgesObject program o (λ image. IsRecorded r.out.now r.max_inst r.object.now (map string_bytes r.args.now) result o program image (world_of given files image))
+
+abbrev pub GivenRecords : {F : Type 0} → Record → List ℕ → List ℕ → Result Answer F → List Found → Outcome Answer → Type 0
+GivenRecords r program given result loaded o = LoadsEach (names_in r) loaded o (λ files _. LoadedRecords r program given files result o)
+
+abbrev pub ObjectRecords : {F : Type 0} → Record → List ℕ → Result Answer F → List Found → Outcome Answer → Type 0
+ObjectRecords r program result loaded o = LoadsNamed (option_copied r.input) loaded o (λ bytes others. GivenRecords r program (unwrap_or bytes []) result others o)
+
+-- a full trace ends a run as its budget does
+abbrev pub run_end : RecordEnd → RunEnd
+run_end (record_ends.Run e) = e
+run_end record_ends.Full = ends.Limit
