@@ -3,7 +3,7 @@ use Rattle.std.proofs.Common.{◌≡◌, ℕ, ◌++◌, Bool, true, false, List,
 use Rattle.std.specs.Prelude.{if◌then◌else◌}
 use Rattle.event_trace.specs.declared.trace.Block.{Block}
 use Rattle.sim_safe.specs.Record.{Item}
-use Rattle.sim_safe.specs.Commit.{line_of, blocks_of, onto, block_bytes, output_of as output_of_item, output_joined, outputs_back, outputs_of, outputs_onto}
+use Rattle.sim_safe.specs.Commit.{line_of, blocks_of, onto, block_bytes, output_of as output_of_item, outputs_back, outputs_of, outputs_onto}
 use Rattle.std.specs.List.{flat_map}
 use Rattle.sim_watch.specs.Watch.{puts_of, is_short, piece_of, piece_with, writes_of, written_of, last_piece, run_journal}
 use Rattle.journal.specs.Write.{output_of, report_of, Journal, Append, Output}
@@ -26,7 +26,7 @@ with_output (Some file) was line = piece_output (is_short (was ++ line)) file (w
 
 item_output : (file : Option (List ℕ)) (was : List ℕ) (i : Item) → output_of (writes_of file was i) ≡ output_of_item i
 item_output file was i =
-    output_more (piece_with file was (line_of i)) (puts_of (blocks_of i)) ∙ ap (λ x. output_of (puts_of (blocks_of i)) ++ x) (with_output file was (line_of i)) ∙ append-nil (output_of (puts_of (blocks_of i))) ∙ puts_output (blocks_of i) ∙ output_joined i
+    output_more (piece_with file was (line_of i)) (puts_of (blocks_of i)) ∙ ap (λ x. output_of (puts_of (blocks_of i)) ++ x) (with_output file was (line_of i)) ∙ append-nil (output_of (puts_of (blocks_of i))) ∙ puts_output (blocks_of i)
 
 pub written_output : (file : Option (List ℕ)) (was : List ℕ) (h : List Item) → output_of (written_of file was h).journal ≡ outputs_back h
 unfolding written_of
