@@ -4,6 +4,7 @@ use Rattle.pisa_main.proofs.command.Goals as goal
 -- what the top call says, clause by clause; the real files' counts before and after are what they are
 pub returns : goal.returns
 returns g c = let said = c.simulate.ensures in record {
+  files = _;
   outcome = said.ending;
   words = said.words;
   names = said.names;
