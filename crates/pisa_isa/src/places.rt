@@ -225,7 +225,8 @@ fn sources(i: &Instr, fields: Fields, written: Group, late: Group) -> ArrayVec<P
 /// The places that an instruction reads first, in the order `rs`, `rt`, `rd`, each once.
 ///
 /// They are the registers of the used fields that are neither only written nor read late; for a
-/// load or a store they are those of its address. MFHI reads HI and MFLO reads LO. Register 0 never stands here.
+/// load or a store they are those of its address. MFHI reads HI and MFLO reads LO. Register 0 never
+/// stands here.
 pub fn reads_main(i: &Instr) -> ArrayVec<Place, 3>
     ensures { result.items ≡ reads_main_of i.now }
 {

@@ -1,6 +1,8 @@
 -- The access of an instruction is the one of the table, and it goes on as its control says.
-use Rattle.std.proofs.Common.{◌≡◌, ℕ, Bool, true, false, [], Ok, IfOk, refl, sym, subst, nat_eq, if◌then◌else◌}
+use Rattle.std.proofs.Common.{◌≡◌, ℕ, Bool, true, false, [], Ok, IfOk, refl, sym, subst, nat_eq, if◌then◌else◌, ap, ◌∙◌}
 use Rattle.pisa_isa.specs.declared.instr.Instr.{Instr}
+use Rattle.pisa_isa.specs.declared.instr.Op.{Op}
+use Rattle.pisa_isa.specs.declared.classes.AccessKind.TheVariants as access
 use Rattle.pisa_isa.specs.declared.classes.ControlKind.TheVariants as control
 use Rattle.pisa_isa.specs.Classes.{access_by, access_of, control_by, control_of}
 use Rattle.pisa_isa.specs.Targets.{branch_target}
@@ -20,7 +22,7 @@ use Rattle.pisa_step.specs.Arithmetic.{exact_of, first_of, second_of, target_of,
 use Rattle.pisa_step.specs.Memory.{address_of}
 use Rattle.pisa_step.specs.Effect.{effect_of, jumps, outcome_of}
 use Rattle.pisa_step.specs.Actions.{action_of}
-use Rattle.pisa_step.specs.Dependence.{Accesses, GoesOn, GoesTo, effective_address, effective_address_by, jumps_to}
+use Rattle.pisa_step.specs.Dependence.{Accesses, GoesOn, GoesTo, effective_address, effective_address_by, jumps_to, loaded_count}
 use Rattle.pisa_step.proofs.Columns.{kind_for, kind_is, shape_is, shape_of}
 use Rattle.pisa_step.proofs.Ways.{branches_any, divides_any, exactly_any, load_any, load_pair_any, settle, store_any, store_part_any}
 
@@ -76,6 +78,15 @@ accesses s i pc text e is =
     subst (λ k. Accesses (access_by k) (effective_address s i) e) (sym (kind_is i.op))
     (subst (λ o. Accesses (access_by (kind_for (action_of i.op))) (effective_address_by o s i) e) (sym (shape_is i.op))
     (settle (Fits (action_of i.op) s i) (outcome_of (action_of i.op) s i pc text) e is (fits (action_of i.op) s i pc text)))
+
+nothing_loaded_by : (does : Action) → (access_by (kind_for does) ≡ access.Load → ⊥) → loaded_count does ≡ 0
+nothing_loaded_by (action.Load size at) other = absurd (other refl)
+nothing_loaded_by (action.LoadPair at) other = absurd (other refl)
+nothing_loaded_by (action.LoadPart side) other = absurd (other refl)
+nothing_loaded_by _ other = refl
+
+pub nothing_loaded : (o : Op) → (access_of o ≡ access.Load → ⊥) → loaded_count (action_of o) ≡ 0
+nothing_loaded o other = nothing_loaded_by (action_of o) (λ is. other (ap access_by (kind_is o) ∙ is))
 
 -- ---- the control
 

@@ -1,5 +1,5 @@
--- What an instruction's effect depends on and what it changes, in terms of the table of instructions alone:
--- its places, its access and its control.
+-- What an instruction's effect depends on and what it changes, in terms of the columns of the
+-- instruction table: its places, its access and its control.
 use Rattle.std.specs.Prelude.{◌≡◌, ℕ, ◌+◌, ◌-◌, ◌%◌, ◌<◌, ◌≤◌, true, false, List, [], ◌∷◌, ◌++◌, All, Option, Some, None, IsSome, map, if◌then◌else◌}
 use Rattle.pisa_isa.specs.declared.instr.Instr.{Instr}
 use Rattle.pisa_isa.specs.declared.table.Operands.{Operands}
@@ -55,8 +55,8 @@ pub record IsLoaded (s : Reader) (i : Instr) (b : ℕ) : Type 0 where
   pub from : first_loaded (action_of i.op) (effective_address s i) ≤ b
   pub before : b < first_loaded (action_of i.op) (effective_address s i) + loaded_count (action_of i.op)
 
--- two readers agree on all that an instruction reads: on the places that it lists, on register 0, which is
--- no place and always 0, on the bytes that it loads and on the byte order
+-- two readers agree on all that an instruction reads: on the places that the table lists, on register
+-- 0, which is no place and always 0, on the bytes that it loads and on the byte order
 pub record ReadTheSame (i : Instr) (s t : Reader) : Type 0 where
   pub zero : s.regs 0 ≡ t.regs 0
   pub main : All (λ p. value_at s p ≡ value_at t p) (reads_main_of i)
@@ -84,7 +84,8 @@ abbrev pub jumps_to : Operands → Reader → Instr → ℕ → ℕ
 jumps_to form.Target s i pc = jump_target pc i.target
 jumps_to _ s i pc = s.regs i.rs
 
--- changes go on behind the instruction; to the target of a branch, where it is taken; to where a jump goes
+-- changes go on behind the instruction; to the target of a branch, where it is taken; to where a
+-- jump goes
 abbrev pub GoesTo : ControlKind → ℕ → ℕ → ℕ → Changes → Type 0
 GoesTo control.Nothing behind branch jump e = (e.taken ≡ false) × (e.next ≡ behind)
 GoesTo control.Cond behind branch jump e = e.next ≡ (if e.taken then branch else behind)

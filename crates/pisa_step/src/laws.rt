@@ -1,7 +1,9 @@
 //! Laws of the effects, each carried by a call whose contract is the law.
 ghost use Rattle.std.specs.Prelude.{◌≡◌, ◌+◌, ◌<◌, ◌^◌, ℕ, true, false, Ok};
 ghost use Rattle.std.specs.List.{Contains};
+ghost use Rattle.pisa_isa.specs.declared.classes.AccessKind.TheVariants as access;
 ghost use Rattle.pisa_isa.specs.declared.instr.Instr.{Instr};
+ghost use Rattle.pisa_isa.specs.declared.instr.Op.{Op};
 ghost use Rattle.pisa_isa.specs.declared.places.Place.{Place};
 ghost use Rattle.pisa_isa.specs.Classes.{access_of, control_of};
 ghost use Rattle.pisa_isa.specs.Coding.{IsWellFormed};
@@ -9,7 +11,8 @@ ghost use Rattle.pisa_isa.specs.Places.{writes_of};
 ghost use Rattle.pisa_step.specs.declared.action.Side.TheVariants as side;
 ghost use Rattle.pisa_step.specs.declared.changes.Changes.{Changes};
 ghost use Rattle.pisa_step.specs.declared.changes.TextRange.{TextRange};
-ghost use Rattle.pisa_step.specs.Dependence.{Accesses, GoesOn, ReadTheSame, effective_address, value_at, written_places};
+ghost use Rattle.pisa_step.specs.Actions.{action_of};
+ghost use Rattle.pisa_step.specs.Dependence.{Accesses, GoesOn, ReadTheSame, effective_address, loaded_count, value_at, written_places};
 ghost use Rattle.pisa_step.specs.Effect.{changed, effect_of};
 ghost use Rattle.pisa_step.specs.Reader.{Reader};
 ghost use Rattle.pisa_step.specs.Memory.{part_loaded_at, word_at};
@@ -41,10 +44,11 @@ pub fn effects_write_what_is_listed()
 {}
 
 /// A load or a store that doesn't stop has its effective address, and a store a write; no other
-/// instruction has either.
+/// instruction has either. An operation that the table has no load for loads no byte.
 pub fn effects_access_what_is_listed()
-    ensures { (s : Reader) (i : Instr) (pc : ℕ) (text : TextRange) (e : Changes) → effect_of s i pc text ≡ Ok e
+    ensures access { (s : Reader) (i : Instr) (pc : ℕ) (text : TextRange) (e : Changes) → effect_of s i pc text ≡ Ok e
         → Accesses (access_of i.op) (effective_address s i) e }
+    ensures loaded { (o : Op) → (access_of o ≡ access.Load → ⊥) → loaded_count (action_of o) ≡ 0 }
 {}
 
 /// An instruction that doesn't stop goes on as its control says: eight bytes further, modulo 2^32,

@@ -241,7 +241,8 @@ fn shifted_values_are_computed(rt: HostRuntime) {
     assert!(rt; right);
 }
 
-/// Whether an operation puts these values into HI and LO, and the moves take them out and put others in.
+/// Whether an operation puts these values into HI and LO, and the moves take them out and put
+/// others in.
 fn makes(op: Op, a: u32, b: u32, hi: u32, lo: u32) -> bool {
     let mut m = with_values(a, b);
     let made = step(&mut m, &instr(op, 4, 5, 0))
