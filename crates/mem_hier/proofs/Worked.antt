@@ -9,9 +9,12 @@ worked =
     record {
       greatest_fetch = λ w. refl;
       greatest_load = λ w. refl;
-      instant = record { greatest = refl; first = refl; second = refl; later = refl; dl1 = refl };
-      waiting = record { greatest = refl; first = refl; second = refl; later = refl; dl1 = refl };
       fetch = refl;
       next = refl;
       block = refl;
+      instant = record { greatest = refl; first = refl; second = refl; later = refl; dl1 = refl };
+      waiting = record { greatest = refl; first = refl; second = refl; later = refl; dl1 = refl };
+      levels = record { greatest = refl; first = refl; second = refl; flight = refl; fourth = refl; behind = refl; dl1 = refl; dl2 = refl };
+      levels_waiting = record { greatest = refl; first = refl; second = refl; flight = refl; fourth = refl; behind = refl; dl1 = refl; dl2 = refl };
+      shared = record { il1 = refl; il2 = refl; dl1 = refl; dl2 = refl };
     }
