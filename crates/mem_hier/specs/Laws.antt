@@ -1,6 +1,6 @@
 -- Laws of the replay, in words of their own.
-use Rattle.std.specs.Prelude.{◌≡◌, ℕ, ◌+◌, ◌≤◌, ◌-◌, Bool, true, false, List, [], ◌∷◌, ◌++◌, Option, Some, None, IsTrue, if◌then◌else◌}
-use Rattle.std.specs.Option.{option_map, option_map_or}
+use Rattle.std.specs.Prelude.{◌≡◌, ℕ, ◌+◌, ◌≤◌, Bool, true, false, List, [], ◌∷◌, ◌++◌, Option, Some, None, if◌then◌else◌}
+use Rattle.std.specs.Option.{option_map}
 use Rattle.cache_core.specs.declared.config.CacheConfig.{CacheConfig}
 use Rattle.cache_core.specs.declared.answers.Touch.{Touch}
 use Rattle.cache_core.specs.declared.answers.Victim.{Victim}
@@ -11,9 +11,8 @@ use Rattle.mem_hier.specs.declared.config.Level.TheVariants.{Off, Own, Shared}
 use Rattle.mem_hier.specs.declared.config.HierConfig.{HierConfig}
 use Rattle.mem_hier.specs.declared.config.Which.{Which}
 use Rattle.mem_hier.specs.declared.config.Which.TheVariants.{Il1, Dl1, Il2, Dl2, Itlb, Dtlb}
-use Rattle.mem_hier.specs.Limits.{is_off, is_shared, own, behind_il1, IsBetween}
+use Rattle.mem_hier.specs.Limits.{is_shared, own, IsBetween}
 use Rattle.mem_hier.specs.Replay.{Reference, Fetch, Load, Store, SettleAll, Timing, Calls, il1_timing, dl1_timing, dl2_timing, last_timing, tlb_timing, hit_latency, calls_of, calls_at, latency_of, shape_of, counts_at, greatest_fetch_of, greatest_load_of, fetch_hit_of}
-use Rattle.mem_hier.specs.Stands.{last_cycle_in}
 
 -- Every latency is at least 1 and at most the greatest of its kind, and a fetch takes no less than where its first level
 -- hits.
