@@ -1,22 +1,19 @@
 -- What each cache is asked, and how many accesses pass from one level to the next.
-use Rattle.std.proofs.Common.{◌≡◌, ℕ, ◌+◌, ◌-◌, ◌≤◌, Bool, true, false, cond, List, [], ◌∷◌, ◌++◌, Option, Some, None, refl, sym, ◌∙◌, ap, subst, arith}
-use Rattle.std.specs.Prelude.{if◌then◌else◌, not}
-use Rattle.std.specs.Option.{option_map, option_map_or}
+use Rattle.std.proofs.Common.{◌≡◌, ℕ, Bool, true, false, cond, List, [], ◌∷◌, ◌++◌, Option, Some, None, refl, sym, ◌∙◌, ap, subst}
+use Rattle.std.specs.Prelude.{if◌then◌else◌}
+use Rattle.std.specs.Option.{option_map}
 use Rattle.cache_core.specs.declared.config.CacheConfig.{CacheConfig}
 use Rattle.cache_core.specs.declared.answers.Touch.{Touch}
 use Rattle.cache_core.specs.declared.answers.Victim.{Victim}
-use Rattle.cache_core.specs.Replay.{Call, Access, Fill, Settle, block_of, set_of, touched, lines_of, touch_of, number_of, writes_back, counts_of}
+use Rattle.cache_core.specs.Replay.{Call, Access, Settle, touch_of, counts_of}
 use Rattle.cache_core.specs.Laws.{references}
 use Rattle.cache_core.proofs.LawProofs.{references_kept}
-use Rattle.cache_core.proofs.Places.{touched-hit_victim}
-use Rattle.mem_hier.specs.declared.config.Level.{Level}
-use Rattle.mem_hier.specs.declared.config.Level.TheVariants.{Off, Own, Shared}
 use Rattle.mem_hier.specs.declared.config.HierConfig.{HierConfig}
 use Rattle.mem_hier.specs.declared.config.Which.{Which}
 use Rattle.mem_hier.specs.declared.config.Which.TheVariants.{Il1, Dl1, Il2, Dl2, Itlb, Dtlb}
-use Rattle.mem_hier.specs.Limits.{is_shared, own, own_or, behind_il1}
-use Rattle.mem_hier.specs.Replay.{Reference, Fetch, Load, Store, SettleAll, Timing, Passed, Calls, Answer, last_timing, il1_timing, dl1_timing, dl2_timing, tlb_timing, behind_il1_timing, last_access, written_back, first_access, through, translated, data_way, fetch_way, data_answer, fetch_answer, calls_of, calls_at, shape_of, counts_at}
-use Rattle.mem_hier.specs.Laws.{written, asked_on, asked_behind, asked_by_fetch, asked_by_data, asked_of, passed_on, IsBalanced}
+use Rattle.mem_hier.specs.Limits.{is_shared, own, behind_il1}
+use Rattle.mem_hier.specs.Replay.{Reference, Fetch, Load, Store, SettleAll, Timing, Passed, Calls, il1_timing, dl1_timing, dl2_timing, tlb_timing, behind_il1_timing, last_access, written_back, first_access, through, translated, data_way, fetch_way, data_answer, fetch_answer, calls_of, shape_of, counts_at}
+use Rattle.mem_hier.specs.Laws.{written, asked_on, asked_behind, asked_by_fetch, asked_by_data, asked_of}
 use Rattle.mem_hier.proofs.Fills.{last_cases}
 use Rattle.mem_hier.proofs.Steps.{first_hit, first_missed}
 use Rattle.mem_hier.proofs.Ways.{behind_shared, behind_own, fetch_cases}

@@ -1,19 +1,15 @@
 -- How long references take, and when the blocks of the whole hierarchy are filled at the latest.
-use Rattle.std.proofs.Common.{◌≡◌, ℕ, zero, suc, ◌+◌, ◌-◌, ◌*◌, ◌/◌, ◌^◌, ◌<◌, ◌≤◌, Bool, true, false, cond, List, [], ◌∷◌, Option, Some, None, refl, sym, ◌∙◌, ap, subst, arith}
+use Rattle.std.proofs.Common.{◌≡◌, ℕ, ◌+◌, ◌-◌, ◌*◌, ◌/◌, ◌≤◌, Bool, true, false, cond, List, [], ◌∷◌, Option, Some, None, refl, sym, ap, subst, arith}
 use Rattle.std.specs.Prelude.{if◌then◌else◌, max}
-use Rattle.std.specs.Option.{option_map_or}
 use Rattle.std.proofs.Math.Nat.{div-le_self, mul-le-mul}
 use Rattle.cache_core.specs.declared.config.CacheConfig.{CacheConfig}
-use Rattle.cache_core.specs.Limits.{IsWithinLimits}
 use Rattle.cache_core.specs.Stands as cache
 use Rattle.cache_core.specs.Replay.{Call, Access, Settle, block_of, fill_end_of, touch_of}
-use Rattle.mem_hier.specs.declared.config.Level.{Level}
 use Rattle.mem_hier.specs.declared.config.HierConfig.{HierConfig}
-use Rattle.mem_hier.specs.declared.timing.Timings.{Timings}
-use Rattle.mem_hier.specs.Limits.{is_shared, own, own_or, behind_il1, IsShape, HasShapes, IsAllowed}
-use Rattle.mem_hier.specs.Replay.{Reference, Fetch, Load, Store, SettleAll, Timing, Passed, Served, Calls, Answer, memory_latency, last_timing, first_timing, il1_timing, dl1_timing, dl2_timing, tlb_timing, behind_il1_lookup, behind_il1_timing, last_access, written_back, first_access, hit, missed, through, translated, data_way, fetch_way, data_answer, fetch_answer, answer, settled, calls_of}
+use Rattle.mem_hier.specs.Limits.{is_shared, own, behind_il1, IsShape, IsAllowed}
+use Rattle.mem_hier.specs.Replay.{Reference, Fetch, Load, Store, SettleAll, Timing, Passed, Served, Calls, Answer, memory_latency, last_timing, first_timing, il1_timing, dl1_timing, dl2_timing, tlb_timing, behind_il1_lookup, behind_il1_timing, last_access, written_back, first_access, through, translated, data_way, fetch_way, data_answer, fetch_answer, calls_of}
 use Rattle.mem_hier.specs.Stands.{Caches, LevelStands, CachesStand, last_cycle_in, CyclesRise}
-use Rattle.mem_hier.specs.Sound.{FillsBy, IsMet, LevelMet, CachesMet, IsTimed, AreTimed, timings_of}
+use Rattle.mem_hier.specs.Sound.{FillsBy, LevelMet, CachesMet, IsTimed, AreTimed, timings_of}
 use Rattle.mem_hier.proofs.Fills.{fills_access, fills_fill, fills_settle, fills_none, fills_later, IsWithin, hit_bounds, last_fills, last_within, written_fills}
 use Rattle.mem_hier.proofs.Steps.{first_hit, first_missed}
 use Rattle.mem_hier.proofs.Ways.{IsBehind, behind_shared, behind_own, fetch_cases}

@@ -1,15 +1,14 @@
 -- When the blocks of one cache are filled at the latest, and how long its accesses take at most.
-use Rattle.std.proofs.Common.{◌≡◌, ◌≢◌, ℕ, zero, suc, ◌+◌, ◌-◌, ◌*◌, ◌<◌, ◌≤◌, Bool, true, false, cond, List, [], ◌∷◌, Option, Some, None, ◌⊎◌, inl, inr, refl, sym, ◌∙◌, ap, subst, arith}
-use Rattle.std.specs.Prelude.{IsSome, is_some, if◌then◌else◌, max}
+use Rattle.std.proofs.Common.{◌≡◌, ◌≢◌, ℕ, ◌+◌, ◌-◌, ◌≤◌, Bool, true, false, cond, List, [], ◌∷◌, Option, Some, None, ◌⊎◌, inl, inr, refl, sym, ap, subst, arith}
+use Rattle.std.specs.Prelude.{is_some, max}
 use Rattle.std.specs.Option.{option_map, option_map_or}
 use Rattle.std.proofs.lemmas.Bool.{cases_eq}
 use Rattle.cache_core.specs.declared.config.CacheConfig.{CacheConfig}
-use Rattle.cache_core.specs.declared.answers.Touch.{Touch}
 use Rattle.cache_core.specs.declared.answers.Victim.{Victim}
 use Rattle.cache_core.specs.Replay.{Line, Call, Access, Fill, Settle, block_of, ending_at, lines_of, touch_of, line_at, fill_end_of}
 use Rattle.cache_core.specs.Laws.{FillEnds}
 use Rattle.cache_core.proofs.LawProofs.{fill_ends_kept}
-use Rattle.mem_hier.specs.Replay.{Timing, hit_latency, Served, hit, missed, last_access, written_back, Passed, first_access}
+use Rattle.mem_hier.specs.Replay.{Timing, hit_latency, Served, hit, missed, last_access, written_back}
 use Rattle.mem_hier.specs.Sound.{FillsBy}
 
 abbrev end_or : Option Line → ℕ

@@ -1,22 +1,20 @@
 -- Latencies of all histories.
-use Rattle.std.proofs.Common.{◌≡◌, ℕ, zero, suc, ◌+◌, ◌-◌, ◌*◌, ◌<◌, ◌≤◌, Bool, true, false, cond, List, [], ◌∷◌, map, Option, Some, None, refl, sym, ◌∙◌, ap, subst, arith}
-use Rattle.std.specs.Prelude.{if◌then◌else◌, max, slice_get}
-use Rattle.std.specs.Option.{option_map, option_map_or}
+use Rattle.std.proofs.Common.{◌≡◌, ℕ, ◌+◌, ◌≤◌, Bool, true, false, cond, List, [], ◌∷◌, map, Option, Some, None, refl, sym, ◌∙◌, ap, subst, arith}
+use Rattle.std.specs.Prelude.{if◌then◌else◌, max}
 use Rattle.cache_core.specs.declared.config.CacheConfig.{CacheConfig}
 use Rattle.cache_core.specs.declared.answers.Touch.{Touch}
-use Rattle.cache_core.specs.declared.answers.Victim.{Victim}
-use Rattle.cache_core.specs.Replay.{Line, Call, Access, Fill, Settle, block_of, set_of, ending_at, find_line, touched, touched_at, lines_of, touch_of, fill_end_of}
+use Rattle.cache_core.specs.Replay.{Call, Settle, block_of, set_of, ending_at, find_line, touched, touched_at, lines_of, touch_of, fill_end_of}
 use Rattle.mem_hier.specs.declared.config.HierConfig.{HierConfig}
 use Rattle.mem_hier.specs.declared.config.Which.{Which}
 use Rattle.mem_hier.specs.declared.config.Which.TheVariants.{Il1, Dl1, Il2, Dl2, Itlb, Dtlb}
-use Rattle.mem_hier.specs.Limits.{is_shared, own, behind_il1, IsBetween, IsAllowed}
-use Rattle.mem_hier.specs.Replay.{Reference, Fetch, Load, Store, SettleAll, Timing, Passed, Calls, Answer, hit_latency, last_timing, first_timing, il1_timing, dl1_timing, dl2_timing, tlb_timing, behind_il1_lookup, behind_il1_timing, last_access, written_back, first_access, through, translated, data_way, fetch_way, data_answer, fetch_answer, calls_of, latency_of, calls_at, shape_of, greatest_fetch_of, greatest_load_of, fetch_hit_of}
+use Rattle.mem_hier.specs.Limits.{is_shared, own, behind_il1, IsAllowed}
+use Rattle.mem_hier.specs.Replay.{Reference, Fetch, Load, Store, SettleAll, Timing, Calls, Answer, hit_latency, last_timing, first_timing, il1_timing, dl1_timing, dl2_timing, tlb_timing, behind_il1_lookup, behind_il1_timing, last_access, written_back, first_access, through, translated, data_way, fetch_way, data_answer, fetch_answer, calls_of, latency_of, greatest_fetch_of, fetch_hit_of}
 use Rattle.mem_hier.specs.Stands.{references_in, last_cycle_in, CyclesRise}
-use Rattle.mem_hier.specs.Laws.{HasBounds, FirstMisses, timing_at, WaitIsBounded, IsBare, TakesLookups}
+use Rattle.mem_hier.specs.Laws.{HasBounds, FirstMisses, WaitIsBounded, IsBare, TakesLookups}
 use Rattle.mem_hier.proofs.Fills.{hit_bounds, last_missed}
 use Rattle.mem_hier.proofs.Steps.{first_missed}
 use Rattle.mem_hier.proofs.Ways.{fetch_cases}
-use Rattle.mem_hier.proofs.Bounds.{IsFilled, LevelFills, CallsFill, fetch_timing, last_timed, first_timed, tlb_timed, first_lookup, fetch_answer_fills, data_answer_fills, calls_fill_by}
+use Rattle.mem_hier.proofs.Bounds.{LevelFills, fetch_timing, last_timed, first_timed, tlb_timed, first_lookup, fetch_answer_fills, data_answer_fills, calls_fill_by}
 
 -- bounds
 fetch_lookup : (c : HierConfig) → (fetch_timing c).lookup ≡ fetch_hit_of c

@@ -1,10 +1,10 @@
 -- The shapes that a configuration gives.
-use Rattle.std.proofs.Common.{◌≡◌, ℕ, ◌+◌, ◌<◌, ◌≤◌, Option, Some, None, refl, sym, ◌∙◌, ap, subst, arith}
+use Rattle.std.proofs.Common.{◌≡◌, Option, sym, subst}
 use Rattle.cache_core.specs.declared.config.CacheConfig.{CacheConfig}
 use Rattle.mem_hier.specs.declared.config.Level.{Level}
 use Rattle.mem_hier.specs.declared.config.Level.TheVariants.{Off, Own, Shared}
 use Rattle.mem_hier.specs.declared.config.HierConfig.{HierConfig}
-use Rattle.mem_hier.specs.Limits.{own, own_or, behind_il1, IsShape, HasShapes}
+use Rattle.mem_hier.specs.Limits.{own, own_or, IsShape, HasShapes}
 
 own_or_fits : (level : Level) (shared : Option CacheConfig) → IsShape (own level) → IsShape shared → IsShape (own_or level shared)
 own_or_fits Off shared fits fits' = fits

@@ -1,15 +1,15 @@
 -- What the steps of the code say of single caches.
-use Rattle.std.proofs.Common.{◌≡◌, ℕ, ◌+◌, ◌-◌, ◌<◌, ◌≤◌, Bool, true, false, cond, List, [], ◌∷◌, Option, Some, None, refl, sym, ◌∙◌, ap, subst, arith}
+use Rattle.std.proofs.Common.{◌≡◌, ℕ, ◌+◌, ◌-◌, ◌≤◌, Bool, true, false, cond, List, ◌∷◌, Option, Some, None, refl, sym, ◌∙◌, ap, subst, arith}
 use Rattle.std.specs.Prelude.{if◌then◌else◌, max}
 use Rattle.cache_core.specs.declared.config.CacheConfig.{CacheConfig}
 use Rattle.cache_core.specs.declared.answers.Touch.{Touch}
 use Rattle.cache_core.specs.declared.answers.Victim.{Victim}
-use Rattle.cache_core.specs.Replay.{Call, Access, Fill, Settle, block_of, touch_of, fill_end_of}
+use Rattle.cache_core.specs.Replay.{Call, Access, Fill, block_of, touch_of, fill_end_of}
 use Rattle.cache_core.specs.Stands.{Held, StandsFor}
-use Rattle.mem_hier.specs.Replay.{Timing, hit_latency, Served, hit, missed, last_access, written_back, Passed, first_access, through, translated}
+use Rattle.mem_hier.specs.Replay.{Timing, hit_latency, hit, missed, last_access, written_back, Passed, first_access, through, translated}
 use Rattle.mem_hier.specs.Stands.{LevelStands}
 use Rattle.mem_hier.specs.Sound.{FillsBy, IsMet, LevelMet, IsServed, LevelServed, IsPassed, WayPassed}
-use Rattle.mem_hier.proofs.Fills.{last_hit, last_missed, last_fills, written_fills}
+use Rattle.mem_hier.proofs.Fills.{last_hit, last_missed, last_fills}
 
 -- a fill end that isn't waited for doesn't matter
 awaited_latency : (t : Timing) (end cycle : ℕ) → hit_latency t (if t.wait then end else 0) cycle ≡ hit_latency t end cycle

@@ -1,8 +1,8 @@
 -- A hierarchy stands for one reference more.
-use Rattle.std.proofs.Common.{◌≡◌, ℕ, ◌+◌, ◌-◌, ◌*◌, ◌^◌, ◌<◌, ◌≤◌, Bool, true, false, List, [], ◌∷◌, refl, sym, ◌∙◌, ap, subst, arith}
+use Rattle.std.proofs.Common.{◌≡◌, ℕ, ◌+◌, ◌-◌, ◌*◌, ◌^◌, ◌<◌, ◌≤◌, List, ◌∷◌, refl, sym, ◌∙◌, ap, subst, arith}
 use Rattle.mem_hier.specs.declared.config.HierConfig.{HierConfig}
 use Rattle.mem_hier.specs.declared.timing.Timings.{Timings}
-use Rattle.mem_hier.specs.Replay.{Reference, Fetch, Load, Store, SettleAll, Calls, Answer, data_answer, fetch_answer, answer, settled, calls_of, latency_of}
+use Rattle.mem_hier.specs.Replay.{Reference, Fetch, Load, Store, SettleAll, Calls, answer, settled, calls_of, latency_of}
 use Rattle.mem_hier.specs.Stands.{Caches, Held, CachesStand, StandsFor, references_in, last_cycle_in, CyclesRise}
 use Rattle.mem_hier.specs.Sound.{timings_of, CachesMet, IsAnswered, AreTimed, CachesBy, IsSound}
 use Rattle.mem_hier.proofs.Ways.{by_more}

@@ -1,5 +1,5 @@
 -- What the steps of the code say of the caches together.
-use Rattle.std.proofs.Common.{◌≡◌, ℕ, ◌+◌, ◌-◌, ◌*◌, ◌^◌, ◌<◌, ◌≤◌, Bool, true, false, cond, List, [], ◌∷◌, Option, Some, None, refl, sym, ◌∙◌, ap, subst, arith}
+use Rattle.std.proofs.Common.{◌≡◌, ℕ, ◌+◌, ◌≤◌, Bool, true, false, cond, List, Option, refl, sym, ◌∙◌, ap, subst, arith}
 use Rattle.std.specs.Prelude.{if◌then◌else◌, max}
 use Rattle.cache_core.specs.declared.config.CacheConfig.{CacheConfig}
 use Rattle.cache_core.specs.Replay.{Call}
@@ -9,9 +9,9 @@ use Rattle.mem_hier.specs.declared.config.Level.TheVariants.{Off, Own, Shared}
 use Rattle.mem_hier.specs.declared.config.HierConfig.{HierConfig}
 use Rattle.mem_hier.specs.declared.timing.Timings.{Timings}
 use Rattle.mem_hier.specs.Limits.{is_shared, own, own_or, behind_il1}
-use Rattle.mem_hier.specs.Replay.{Timing, Passed, Served, Calls, Answer, last_timing, il1_timing, dl1_timing, dl2_timing, tlb_timing, behind_il1_lookup, behind_il1_timing, through, translated, data_way, fetch_way, data_answer, fetch_answer}
-use Rattle.mem_hier.specs.Stands.{Caches, LevelStands, CachesStand}
-use Rattle.mem_hier.specs.Sound.{timings_of, LevelMet, CachesMet, LevelServed, WayPassed, IsAnswered, AccessesBy, CachesBy}
+use Rattle.mem_hier.specs.Replay.{Timing, Passed, Calls, Answer, last_timing, il1_timing, dl2_timing, tlb_timing, behind_il1_lookup, behind_il1_timing, through, translated, data_way, fetch_way, data_answer, fetch_answer}
+use Rattle.mem_hier.specs.Stands.{Caches, LevelStands}
+use Rattle.mem_hier.specs.Sound.{timings_of, LevelMet, CachesMet, LevelServed, WayPassed, IsAnswered, AccessesBy}
 use Rattle.mem_hier.proofs.Steps.{stands_met}
 
 -- what lies behind il1, by whether it is the data side's

@@ -1,18 +1,18 @@
 -- Laws of the replay, in words of their own.
-use Rattle.std.specs.Prelude.{◌≡◌, ℕ, ◌+◌, ◌≤◌, ◌-◌, Bool, true, false, List, [], ◌∷◌, ◌++◌, Option, Some, None, IsTrue, if◌then◌else◌}
-use Rattle.std.specs.Option.{option_map, option_map_or}
+use Rattle.std.specs.Prelude.{◌≡◌, ℕ, ◌+◌, ◌≤◌, Bool, true, false, List, [], ◌∷◌, ◌++◌, Option, Some, None, if◌then◌else◌}
+use Rattle.std.specs.Option.{option_map}
 use Rattle.cache_core.specs.declared.config.CacheConfig.{CacheConfig}
 use Rattle.cache_core.specs.declared.answers.Touch.{Touch}
 use Rattle.cache_core.specs.declared.answers.Victim.{Victim}
 use Rattle.cache_core.specs.declared.answers.Counts.{Counts}
 use Rattle.cache_core.specs.Replay.{Call, Access, block_of, touch_of, fill_end_of, counts_of}
+use Rattle.mem_hier.specs.declared.config.Level.{Level}
 use Rattle.mem_hier.specs.declared.config.Level.TheVariants.{Off, Own, Shared}
 use Rattle.mem_hier.specs.declared.config.HierConfig.{HierConfig}
 use Rattle.mem_hier.specs.declared.config.Which.{Which}
 use Rattle.mem_hier.specs.declared.config.Which.TheVariants.{Il1, Dl1, Il2, Dl2, Itlb, Dtlb}
-use Rattle.mem_hier.specs.Limits.{is_off, is_shared, own, behind_il1, IsBetween}
+use Rattle.mem_hier.specs.Limits.{is_shared, own, IsBetween}
 use Rattle.mem_hier.specs.Replay.{Reference, Fetch, Load, Store, SettleAll, Timing, Calls, il1_timing, dl1_timing, dl2_timing, last_timing, tlb_timing, hit_latency, calls_of, calls_at, latency_of, shape_of, counts_at, greatest_fetch_of, greatest_load_of, fetch_hit_of}
-use Rattle.mem_hier.specs.Stands.{last_cycle_in}
 
 -- Every latency is at least 1 and at most the greatest of its kind, and a fetch takes no less than where its first level
 -- hits.
@@ -134,14 +134,17 @@ default_config wait =
       wait = wait;
     }
 
--- one level of data alone, of a single line of 32 bytes
-abbrev pub one_line : Bool → HierConfig
-one_line wait = record (default_config wait) { il1 = Off; il2 = Off; dl1 = Own (shape 1 32 1); dl2 = Off; itlb = None; dtlb = None }
-
--- two loads of one block in cycle 3
 abbrev pub counted : ℕ → ℕ → ℕ → ℕ → Option Counts
 counted hits misses replacements writebacks =
     Some (record { accesses = hits + misses; hits = hits; misses = misses; replacements = replacements; writebacks = writebacks })
+
+-- a data side alone, of these levels
+abbrev pub data_alone : Bool → CacheConfig → Level → HierConfig
+data_alone wait dl1 dl2 = record (default_config wait) { il1 = Off; il2 = Off; dl1 = Own dl1; dl2 = dl2; itlb = None; dtlb = None }
+
+-- two loads of one block in cycle 3, and one when it is there, through one level of a single line of 32 bytes
+abbrev pub one_line : Bool → HierConfig
+one_line wait = data_alone wait (shape 1 32 1) Off
 
 pub record TwoLoads (wait : Bool) (latency : ℕ) : Type 0 where
   pub greatest : greatest_load_of (one_line wait) ≡ 25
@@ -150,11 +153,40 @@ pub record TwoLoads (wait : Bool) (latency : ℕ) : Type 0 where
   pub later : latency_of (one_line wait) (Load 4 3 ∷ (Load 0 3 ∷ [])) (Load 8 28) ≡ 1
   pub dl1 : counts_at (one_line wait) (Load 4 3 ∷ (Load 0 3 ∷ [])) Dl1 ≡ counted 1 1 0 0
 
+-- a store and four loads through a line of 16 bytes, and two lines of 32 bytes behind it
+abbrev pub three_lines : Bool → HierConfig
+three_lines wait = data_alone wait (shape 1 16 1) (Own (shape 1 32 2))
+
+pub record FiveReferences (wait : Bool) (third fifth : ℕ) : Type 0 where
+  pub greatest : greatest_load_of (three_lines wait) ≡ 31
+  pub first : latency_of (three_lines wait) [] (Store 0 0) ≡ 31
+  pub second : latency_of (three_lines wait) (Store 0 0 ∷ []) (Load 64 40) ≡ 31
+  pub flight : latency_of (three_lines wait) (Load 64 40 ∷ (Store 0 0 ∷ [])) (Load 68 41) ≡ third
+  pub fourth : latency_of (three_lines wait) (Load 68 41 ∷ (Load 64 40 ∷ (Store 0 0 ∷ []))) (Load 16 42) ≡ 7
+  pub behind : latency_of (three_lines wait) (Load 16 42 ∷ (Load 68 41 ∷ (Load 64 40 ∷ (Store 0 0 ∷ [])))) (Load 80 43) ≡ fifth
+  pub dl1 : counts_at (three_lines wait) (Load 80 43 ∷ (Load 16 42 ∷ (Load 68 41 ∷ (Load 64 40 ∷ (Store 0 0 ∷ []))))) Dl1 ≡ counted 1 4 3 1
+  pub dl2 : counts_at (three_lines wait) (Load 80 43 ∷ (Load 16 42 ∷ (Load 68 41 ∷ (Load 64 40 ∷ (Store 0 0 ∷ []))))) Dl2 ≡ counted 3 2 0 0
+
+-- three fetches of one block where the first level is shared and there is no own second one
+abbrev pub shared_first : HierConfig
+shared_first = record (default_config false) { il1 = Shared; il2 = Off }
+
+pub record ThreeFetches : Type 0 where
+  pub il1 : counts_at shared_first (Fetch 4194320 0 ∷ (Fetch 4194312 0 ∷ (Fetch 4194304 0 ∷ []))) Il1 ≡ None
+  pub il2 : counts_at shared_first (Fetch 4194320 0 ∷ (Fetch 4194312 0 ∷ (Fetch 4194304 0 ∷ []))) Il2 ≡ None
+  pub dl1 : counts_at shared_first (Fetch 4194320 0 ∷ (Fetch 4194312 0 ∷ (Fetch 4194304 0 ∷ []))) Dl1 ≡ counted 2 1 0 0
+  pub dl2 : counts_at shared_first (Fetch 4194320 0 ∷ (Fetch 4194312 0 ∷ (Fetch 4194304 0 ∷ []))) Dl2 ≡ counted 0 1 0 0
+
+-- under the defaults a first fetch misses everywhere, the next instruction lies in its block, and the next block in that
+-- of the second level
 pub record WorkedLatencies : Type 0 where
   pub greatest_fetch : (wait : Bool) → greatest_fetch_of (default_config wait) ≡ 39
   pub greatest_load : (wait : Bool) → greatest_load_of (default_config wait) ≡ 39
-  pub instant : TwoLoads false 1
-  pub waiting : TwoLoads true 25
   pub fetch : latency_of (default_config false) [] (Fetch 4194304 0) ≡ 39
   pub next : latency_of (default_config false) (Fetch 4194304 0 ∷ []) (Fetch 4194312 0) ≡ 1
   pub block : latency_of (default_config false) (Fetch 4194304 0 ∷ []) (Fetch 4194336 0) ≡ 7
+  pub instant : TwoLoads false 1
+  pub waiting : TwoLoads true 25
+  pub levels : FiveReferences false 1 7
+  pub levels_waiting : FiveReferences true 30 28
+  pub shared : ThreeFetches

@@ -38,11 +38,16 @@ abbrev pub has_smaller_blocks : Option CacheConfig → Option CacheConfig → Bo
 has_smaller_blocks (Some second) (Some first) = nat_lt second.block first.block
 has_smaller_blocks second first = false
 
--- levels that can't stand together
+-- Levels that can't stand together: a second level without a first one; a shared first level where the data side has
+-- none, or beside a second one; a shared second level where the data side has none; and smaller blocks behind greater ones.
 abbrev pub has_clash : HierConfig → Bool
 has_clash c =
-    (is_off c.il1 && not (is_off c.il2)) || ((is_shared c.il1 && (is_off c.dl1 || not (is_off c.il2))) || ((is_off c.dl1 && not (is_off c.dl2)) || ((is_shared c.il2 && is_off c.dl2)
-    || (has_smaller_blocks (behind_il1 c) (own c.il1) || has_smaller_blocks (own c.dl2) (own c.dl1)))))
+    (is_off c.il1 && not (is_off c.il2))
+    || (is_off c.dl1 && not (is_off c.dl2))
+    || (is_shared c.il1 && (is_off c.dl1 || not (is_off c.il2)))
+    || (is_shared c.il2 && is_off c.dl2)
+    || has_smaller_blocks (behind_il1 c) (own c.il1)
+    || has_smaller_blocks (own c.dl2) (own c.dl1)
 
 -- a shape that is there is one that a cache may have
 pub record IsShape (shape : Option CacheConfig) : Type 0 where

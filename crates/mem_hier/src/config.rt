@@ -154,7 +154,7 @@ impl HierConfig {
         let second_shared = self.il2.is_shared() && self.dl2.is_off();
         let small = has_smaller_blocks(behind, self.il1.own());
         let data_small = has_smaller_blocks(self.dl2.own(), self.dl1.own());
-        second_alone || first_shared || data_second_alone || second_shared || small || data_small
+        second_alone || data_second_alone || first_shared || second_shared || small || data_small
     }
 
     fn has_shapes(&self) -> bool

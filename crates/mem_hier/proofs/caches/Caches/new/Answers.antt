@@ -1,4 +1,3 @@
-use Rattle.std.proofs.Common.{subst, ◌≡◌, refl, sym, []}
 use Rattle.mem_hier.specs.Replay.{calls_of}
 use Rattle.mem_hier.proofs.Ways.{of_shape}
 use Rattle.mem_hier.proofs.caches.Caches.new.Goals as goal

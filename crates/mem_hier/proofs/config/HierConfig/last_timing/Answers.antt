@@ -1,4 +1,4 @@
-use Rattle.std.proofs.Common.{◌≡◌, ◌≤◌, arith}
+use Rattle.std.proofs.Common.{arith}
 use Rattle.cache_core.specs.Limits.{IsWithinLimits}
 use Rattle.mem_hier.proofs.config.HierConfig.last_timing.Goals as goal
 

@@ -1,8 +1,8 @@
-use Rattle.std.proofs.Common.{◌^◌, ◌<◌, ◌≤◌, sym, subst, arith}
+use Rattle.std.proofs.Common.{◌^◌, ◌<◌, ◌≤◌, sym, subst}
 use Rattle.mem_hier.specs.Replay.{Fetch}
 use Rattle.mem_hier.specs.Stands.{Held, StandsFor}
 use Rattle.mem_hier.specs.Sound.{shown}
-use Rattle.mem_hier.proofs.Stood.{of_fetch, stood, sound_after, has_room, has_timings}
+use Rattle.mem_hier.proofs.Stood.{of_fetch, stood, sound_after}
 use Rattle.mem_hier.proofs.hier.Hier.fetch.Goals as goal
 
 pub invariant_of-self : goal.invariant_of-self
