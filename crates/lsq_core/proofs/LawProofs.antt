@@ -1,10 +1,10 @@
 -- The laws of the order of memory.
 use Rattle.std.proofs.Common.{◌≡◌, ◌≢◌, ℕ, ◌+◌, ◌<◌, ◌≤◌, Some, None, cond, Bool, true, false, List, [], ◌∷◌, ◌++◌, refl, sym, ap, ◌∙◌, arith, eq-eqb}
-use Rattle.std.specs.Prelude.{map, filter, Option, Result, Ok, Err, ◌==◌, ◌&&◌, ◌||◌, not, nat_le, nat_eq, All, if◌then◌else◌}
+use Rattle.std.specs.Prelude.{map, Option, Result, Ok, Err, ◌==◌, ◌&&◌, ◌||◌, not, nat_le, All, if◌then◌else◌}
 use Rattle.std.specs.List.{list_any}
 use Rattle.std.proofs.lemmas.List.Elements.{All-cons, All-nil}
 use Rattle.std.proofs.lemmas.Bool.{eqb-true, ltb-true, leb-true, le-leb}
-use Rattle.lsq_core.specs.Queue.{Entry, Queue, is_by, is_done, forbids, forwards, or_else, oldest, answer, answer_after, load_answer, set_once, at_row, with_address, with_data, falls_below, rises_to}
+use Rattle.lsq_core.specs.Queue.{Entry, Queue, is_by, forbids, forwards, or_else, oldest, answer, answer_after, load_answer, set_once, at_row, falls_below, rises_to}
 use Rattle.lsq_core.specs.Slots.{up_to}
 use Rattle.lsq_core.specs.Laws.{IsOldestForbidding, NamesTheOldest, StaysAllowed, IgnoresYounger, StandsAt}
 use Rattle.lsq_core.proofs.Rises.{up_to_kept, and_left, and_right}

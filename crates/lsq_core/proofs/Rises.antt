@@ -1,12 +1,12 @@
 -- The entries of a ring, and that their rows rise.
-use Rattle.std.proofs.Common.{◌≡◌, ℕ, zero, suc, ◌+◌, ◌-◌, ◌<◌, ◌≤◌, Some, None, cond, Bool, true, false, List, [], ◌∷◌, ◌++◌, length, take, drop, refl, sym, ap, ◌∙◌, arith, length-append}
+use Rattle.std.proofs.Common.{◌≡◌, ℕ, ◌+◌, ◌-◌, ◌<◌, ◌≤◌, Some, None, cond, Bool, true, false, List, [], ◌∷◌, ◌++◌, length, take, drop, refl, sym, ap, ◌∙◌, arith, length-append}
 use Rattle.std.specs.Prelude.{map, reverse, filter, slice_get, option_map, Option, ◌==◌, ◌&&◌, nat_le, nat_lt, if◌then◌else◌}
 use Rattle.std.proofs.lemmas.List.{reverse-append, map-append, length-map, length-reverse}
 use Rattle.std.proofs.lemmas.Bool.{ltb-true, lt-ltb, leb-true, le-leb}
 use Rattle.circular_buffer.specs.Buffer.{Buffer, buffer}
 use Rattle.lsq_core.specs.declared.slots.Slot.{Slot}
 use Rattle.lsq_core.specs.declared.slots.Part.TheVariants.{Address, Data}
-use Rattle.lsq_core.specs.Queue.{Entry, Queue, is_above, falls_below, rises_to, at_row, set_once, first_row, added, with_address, with_data, squashed, retired}
+use Rattle.lsq_core.specs.Queue.{Entry, Queue, is_above, falls_below, rises_to, set_once, first_row, with_address, with_data, squashed, retired}
 use Rattle.lsq_core.specs.Slots.{entry_of, entries_of, queue_of, learned, with_part, up_to}
 
 -- ---- entries of a ring

@@ -1,6 +1,6 @@
 -- Walks over the ring from the oldest slot on.
 use Rattle.std.proofs.Common.{◌≡◌, ℕ, zero, suc, ◌+◌, ◌<◌, ◌≤◌, Some, None, cond, Bool, true, false, List, [], ◌∷◌, ◌++◌, length, take, drop, refl, sym, ap, ◌∙◌, arith, add-one}
-use Rattle.std.specs.Prelude.{map, reverse, slice_get, slice_set, Option, Result, Ok, ◌==◌, ◌||◌, nat_le, if◌then◌else◌}
+use Rattle.std.specs.Prelude.{map, slice_get, slice_set, Option, Result, ◌==◌, ◌||◌, nat_le, if◌then◌else◌}
 use Rattle.std.specs.List.{list_any}
 use Rattle.std.proofs.lemmas.List.{reverse-append, take_more}
 use Rattle.std.proofs.lemmas.Option.{slice_get_within, get_or_from_slice_get}

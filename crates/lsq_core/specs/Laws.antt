@@ -1,6 +1,6 @@
 -- Laws of the order of memory.
-use Rattle.std.specs.Prelude.{◌≡◌, ◌≢◌, ℕ, ◌≤◌, Bool, true, false, List, [], ◌∷◌, ◌++◌, Ok, Err, filter, nat_le, All, ◌↔◌}
-use Rattle.lsq_core.specs.Queue.{Entry, Queue, forbids, oldest, answer_after, load_answer, at_row, with_address, with_data, rises_to}
+use Rattle.std.specs.Prelude.{◌≡◌, ◌≢◌, ℕ, ◌≤◌, Bool, true, false, List, ◌∷◌, ◌++◌, Ok, Err, filter, nat_le, All}
+use Rattle.lsq_core.specs.Queue.{Entry, Queue, forbids, answer_after, load_answer, at_row, with_address, with_data, rises_to}
 
 -- of these entries, the store of that row forbids the load, and none before it does
 abbrev pub IsOldestForbidding : ℕ → ℕ → List Entry → ℕ → Type 0

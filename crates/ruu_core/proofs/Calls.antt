@@ -1,5 +1,5 @@
 -- The clauses of the calls, over the ring as it lies.
-use Rattle.std.proofs.Common.{◌≡◌, ℕ, ◌+◌, ◌-◌, ◌<◌, ◌≤◌, Some, None, cond, Bool, true, false, List, [], ◌∷◌, ◌++◌, length, take, drop, refl, sym, ap, subst, ◌∙◌, arith, length-take}
+use Rattle.std.proofs.Common.{◌≡◌, ℕ, ◌+◌, ◌-◌, ◌≤◌, Some, None, cond, Bool, true, false, List, [], ◌∷◌, ◌++◌, length, take, drop, refl, sym, ap, subst, ◌∙◌, arith, length-take}
 use Rattle.std.specs.Prelude.{map, reverse, filter, find, slice_get, option_map, count_by, Option, IsSome, ◌&&◌, not, is_none, nat_le, nat_lt, if◌then◌else◌}
 use Rattle.std.specs.Option.{option_and_then}
 use Rattle.std.specs.List.{list_any}
@@ -9,14 +9,12 @@ use Rattle.pisa_isa.specs.declared.places.Place.{Place}
 use Rattle.ruu_core.specs.declared.station.Station.{Station}
 use Rattle.ruu_core.specs.declared.slot.Slot.{Slot}
 use Rattle.ruu_core.specs.declared.slot.Source.{Source}
-use Rattle.ruu_core.specs.declared.slot.Event.{Event}
 use Rattle.ruu_core.specs.declared.slot.Event.TheVariants as event
-use Rattle.ruu_core.specs.declared.search.Search.{Search}
 use Rattle.ruu_core.specs.declared.search.Search.TheVariants as search_for
-use Rattle.ruu_core.specs.Window.{Row, Window, is_above, is_by, is_before, is_row, is_live, is_ready, may_access, completes, is_unissued, next, least, passes, second_done, row_of, written_of, first, commits, head_of, finished, may_retire, later, done_cycle, at_row, issuing, accessing, squashed, dropped_by, retired, falls_below, rises_to}
+use Rattle.ruu_core.specs.Window.{Row, Window, is_above, is_by, is_before, is_row, is_live, is_ready, may_access, completes, is_unissued, next, least, passes, second_done, row_of, written_of, first, head_of, finished, may_retire, later, done_cycle, at_row, issuing, accessing, squashed, dropped_by, retired, falls_below, rises_to}
 use Rattle.ruu_core.specs.Slots.{shown, rows_of, window_of, IsLinked, AreLinked, IsSound, FeedAll, sources_behind, slot_after, slot_named, up_to, are_fed, least_of}
 use Rattle.ruu_core.proofs.Rows.{reverse-map, reverse_first, pushed, rows-length, first_last, without_first, first_row, rises_pushed, rises_mapped, rises_up_to, rises_front, up_to_kept, dropped_kept, named_row, named_reverse, live_slot}
-use Rattle.ruu_core.proofs.Links.{Fits, issued_fits, accessed_fits, issue_shows, issue_links, access_shows, access_links, up_to_links, retire_shows, retire_links, last_linked, first_done, behind_all, least_answer, ready_passes, access_passes, named_second}
+use Rattle.ruu_core.proofs.Links.{issued_fits, accessed_fits, issue_shows, issue_links, access_shows, access_links, up_to_links, retire_shows, retire_links, last_linked, first_done, behind_all, least_answer, ready_passes, access_passes, named_second}
 
 -- ---- marks
 

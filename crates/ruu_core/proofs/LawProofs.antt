@@ -1,6 +1,6 @@
 -- The laws of the rows in flight.
 use Rattle.std.proofs.Common.{◌≡◌, ℕ, ◌+◌, ◌<◌, ◌≤◌, Some, None, cond, Bool, true, false, List, [], ◌∷◌, ◌++◌, refl, sym, ap, ◌∙◌, arith, eq-eqb, inl, inr, ◌⊎◌}
-use Rattle.std.specs.Prelude.{map, filter, find, max, Option, ◌==◌, ◌&&◌, ◌||◌, not, is_none, nat_le, nat_lt, if◌then◌else◌}
+use Rattle.std.specs.Prelude.{map, filter, find, max, Option, ◌&&◌, ◌||◌, not, is_none, nat_le, nat_lt, if◌then◌else◌}
 use Rattle.std.proofs.lemmas.Bool.{eqb-true, ltb-true, lt-ltb, leb-true, le-leb}
 use Rattle.pisa_isa.specs.declared.instr.Instr.{Instr}
 use Rattle.pisa_isa.specs.declared.classes.AccessKind.{AccessKind}
@@ -13,7 +13,7 @@ use Rattle.pisa_isa.specs.Fields.{uses}
 use Rattle.pisa_isa.specs.Classes.{access_by, access_of}
 use Rattle.pisa_isa.specs.Places.{members, destination, writes_of}
 use Rattle.ruu_core.specs.declared.station.Station.{Station}
-use Rattle.ruu_core.specs.Window.{Row, Window, is_at, is_by, is_before, is_above, is_load_kind, is_store_kind, is_load, is_store, writes, writes_place, producer, finished, has_produced, main_done, second_done, is_done, is_ready, completes, or_else, least, next, is_row, row_of, passes, first, later, done_cycle, at_row, issuing, squashed, retired, falls_below, rises_to}
+use Rattle.ruu_core.specs.Window.{Row, Window, is_at, is_by, is_before, is_above, is_load_kind, is_store_kind, is_load, is_store, writes, writes_place, producer, finished, has_produced, main_done, second_done, is_ready, completes, or_else, least, next, is_row, row_of, passes, first, later, done_cycle, issuing, retired, falls_below, rises_to}
 use Rattle.ruu_core.specs.Laws.{AnswersTheLeast, IssuesOnce, LeavesOlder, CompletesThere, StaysProduced, StandsAt}
 use Rattle.ruu_core.proofs.Rows.{and_left, and_right, all_kept, or_this, or_last}
 

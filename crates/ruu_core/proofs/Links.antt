@@ -1,7 +1,7 @@
 -- What a slot keeps of its producers is what the rows before it say.
-use Rattle.std.proofs.Common.{◌≡◌, ◌≢◌, ℕ, zero, suc, ◌+◌, ◌-◌, ◌<◌, ◌≤◌, Some, None, cond, Bool, true, false, List, [], ◌∷◌, ◌++◌, length, take, refl, sym, ap, subst, ◌∙◌, arith, eq-eqb}
-use Rattle.std.specs.Prelude.{map, reverse, find, option_map, Option, ◌==◌, ◌&&◌, ◌||◌, not, is_none, nat_lt, nat_le, slice_get, if◌then◌else◌}
-use Rattle.std.specs.List.{list_all, list_any}
+use Rattle.std.proofs.Common.{◌≡◌, ℕ, ◌<◌, ◌≤◌, Some, None, cond, Bool, true, false, List, [], ◌∷◌, ◌++◌, length, refl, sym, ap, subst, ◌∙◌, arith, eq-eqb}
+use Rattle.std.specs.Prelude.{map, reverse, find, option_map, Option, ◌==◌, ◌&&◌, ◌||◌, not, is_none, nat_lt, nat_le, if◌then◌else◌}
+use Rattle.std.specs.List.{list_any}
 use Rattle.std.proofs.lemmas.List.{map-append}
 use Rattle.std.proofs.lemmas.Bool.{eqb-true}
 use Rattle.pisa_isa.specs.declared.places.Place.{Place}
@@ -15,8 +15,8 @@ use Rattle.ruu_core.specs.declared.slot.Event.{Event}
 use Rattle.ruu_core.specs.declared.slot.Event.TheVariants as event
 use Rattle.ruu_core.specs.declared.search.Search.{Search}
 use Rattle.ruu_core.specs.declared.search.Search.TheVariants as search_for
-use Rattle.ruu_core.specs.Window.{Row, is_at, is_by, is_above, is_load_kind, is_store_kind, is_load, is_store, main_reads, second_reads, writes, same_place, writes_place, producer, finished, has_produced, have_produced, main_done, second_done, is_done, is_ready, may_access, completes, is_unissued, or_else, least, next, is_row, passes, issuing, accessing, falls_below}
-use Rattle.ruu_core.specs.Slots.{shown, Feeds, FeedAll, IsLinked, AreLinked, no_source, source_of, source_behind, source_for, sources_behind, source_after, sources_after, marked, slot_after, up_to, slot_named, is_fed, are_fed, slot_passes, wanted, least_of}
+use Rattle.ruu_core.specs.Window.{Row, is_at, is_by, is_above, is_load_kind, is_store_kind, is_load, is_store, main_reads, second_reads, same_place, writes_place, producer, finished, has_produced, have_produced, second_done, is_done, is_ready, may_access, or_else, next, is_row, passes, issuing, accessing, falls_below}
+use Rattle.ruu_core.specs.Slots.{shown, Feeds, FeedAll, IsLinked, AreLinked, source_of, source_behind, sources_behind, source_after, sources_after, slot_after, up_to, slot_named, is_fed, are_fed, slot_passes, wanted, least_of}
 use Rattle.ruu_core.proofs.Rows.{reverse_first, and_right, found_above, or_this, or_last}
 
 -- ---- sources answer for producers

@@ -1,5 +1,5 @@
 -- The rows of a ring, and that they rise.
-use Rattle.std.proofs.Common.{◌≡◌, ℕ, zero, suc, ◌+◌, ◌-◌, ◌<◌, ◌≤◌, Some, None, cond, Bool, true, false, List, [], ◌∷◌, ◌++◌, length, take, drop, refl, sym, ap, ◌∙◌, arith, length-append}
+use Rattle.std.proofs.Common.{◌≡◌, ℕ, ◌+◌, ◌-◌, ◌<◌, ◌≤◌, Some, None, cond, Bool, true, false, List, [], ◌∷◌, ◌++◌, length, take, drop, refl, sym, ap, ◌∙◌, arith, length-append}
 use Rattle.std.specs.Prelude.{map, reverse, filter, find, slice_get, option_map, count_by, Option, ◌==◌, ◌&&◌, ◌||◌, nat_le, nat_lt, if◌then◌else◌}
 use Rattle.std.specs.List.{list_any}
 use Rattle.std.proofs.lemmas.List.{reverse-append, map-append, length-map, length-reverse}
@@ -7,7 +7,7 @@ use Rattle.std.proofs.lemmas.List.Sums.{sum_by-cons}
 use Rattle.std.proofs.lemmas.Bool.{ltb-true, lt-ltb, leb-true, le-leb, eqb-true}
 use Rattle.std.proofs.lemmas.Bool.Decides.{nat_tests}
 use Rattle.ruu_core.specs.declared.slot.Slot.{Slot}
-use Rattle.ruu_core.specs.Window.{Row, Window, is_above, is_row, first, falls_below, rises_to}
+use Rattle.ruu_core.specs.Window.{Row, is_above, is_row, first, falls_below, rises_to}
 use Rattle.ruu_core.specs.Slots.{shown, rows_of, up_to, slot_named}
 
 -- ---- lists

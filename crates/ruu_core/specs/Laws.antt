@@ -1,8 +1,7 @@
 -- Laws of the rows in flight.
-use Rattle.std.specs.Prelude.{◌≡◌, ℕ, ◌<◌, ◌≤◌, ◌⊎◌, Bool, true, false, List, [], ◌∷◌, ◌++◌, Option, Some, None}
+use Rattle.std.specs.Prelude.{◌≡◌, ℕ, ◌≤◌, ◌⊎◌, Bool, true, false, List, [], ◌∷◌, ◌++◌, Option, Some, None}
 use Rattle.pisa_isa.specs.declared.places.Place.{Place}
-use Rattle.ruu_core.specs.declared.station.Station.{Station}
-use Rattle.ruu_core.specs.Window.{Row, Window, is_by, is_before, is_above, is_load, is_store, writes, producer, finished, has_produced, second_done, is_done, is_ready, completes, next, passes, row_of, first, at_row, issuing, squashed, retired}
+use Rattle.ruu_core.specs.Window.{Row, Window, is_by, is_before, is_above, is_load, is_store, producer, finished, has_produced, second_done, is_done, is_ready, next, passes, row_of, at_row, issuing, squashed}
 
 -- a question is answered with the least row above a number that passes, and with none exactly where no such row does
 pub record AnswersTheLeast (test : List Row → Row → Bool) (after : Option ℕ) (w : Window) : Type 0 where

@@ -4,14 +4,13 @@ use Rattle.std.specs.Prelude.{◌≡◌, ℕ, ◌<◌, ◌^◌, Bool, true, fals
 use Rattle.std.specs.List.{list_all, list_any}
 use Rattle.circular_buffer.specs.Buffer.{Buffer}
 use Rattle.pisa_isa.specs.declared.places.Place.{Place}
-use Rattle.ruu_core.specs.declared.station.Station.{Station}
 use Rattle.ruu_core.specs.declared.slot.Slot.{Slot}
 use Rattle.ruu_core.specs.declared.slot.Source.{Source}
 use Rattle.ruu_core.specs.declared.slot.Event.{Event}
 use Rattle.ruu_core.specs.declared.slot.Event.TheVariants as event
 use Rattle.ruu_core.specs.declared.search.Search.{Search}
 use Rattle.ruu_core.specs.declared.search.Search.TheVariants as search_for
-use Rattle.ruu_core.specs.Window.{Row, Window, is_at, is_by, is_above, is_load, is_store, main_reads, second_reads, writes, same_place, producer, finished, is_before, rises_to}
+use Rattle.ruu_core.specs.Window.{Row, Window, is_at, is_by, is_above, is_load, main_reads, second_reads, writes, same_place, producer, finished, rises_to}
 
 abbrev pub shown : Slot → Row
 shown s =

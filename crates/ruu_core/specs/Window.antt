@@ -1,5 +1,5 @@
 -- The rows in flight with their marks, and the rules by which they issue, are done, and leave.
-use Rattle.std.specs.Prelude.{◌≡◌, ℕ, ◌+◌, ◌-◌, ◌<◌, max, Bool, true, false, not, List, [], ◌∷◌, length, take, filter, map, count_by, find, Option, Some, None, slice_get, option_map, is_none, IsTrue, nat_lt, nat_le, ◌==◌, ◌&&◌, ◌||◌, if◌then◌else◌}
+use Rattle.std.specs.Prelude.{◌≡◌, ℕ, ◌+◌, ◌-◌, ◌<◌, max, Bool, true, false, not, List, [], ◌∷◌, length, take, filter, map, count_by, find, Option, Some, None, slice_get, is_none, IsTrue, nat_lt, nat_le, ◌==◌, ◌&&◌, ◌||◌, if◌then◌else◌}
 use Rattle.std.specs.Option.{option_and_then}
 use Rattle.std.specs.List.{list_any, list_all}
 use Rattle.pisa_isa.specs.declared.classes.AccessKind.{AccessKind}

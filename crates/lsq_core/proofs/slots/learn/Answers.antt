@@ -1,7 +1,4 @@
-use Rattle.std.proofs.Common.{◌≡◌, ◌<◌, ◌∙◌, ◌++◌, ap, take, drop, length, arith}
-use Rattle.std.specs.Prelude.{map, slice_get, slice_set, Some}
-use Rattle.circular_buffer.specs.Buffer.{Buffer, buffer}
-use Rattle.lsq_core.specs.declared.slots.Slot.{Slot}
+use Rattle.std.proofs.Common.{arith}
 use Rattle.lsq_core.specs.Slots.{learned}
 use Rattle.lsq_core.proofs.Walks.{step_all}
 use Rattle.lsq_core.proofs.slots.learn.Goals as goal

@@ -1,4 +1,4 @@
-use Rattle.std.proofs.Common.{◌≡◌, ◌∙◌, ap, false, length, arith, eq-eqb}
+use Rattle.std.proofs.Common.{◌≡◌, false, length, arith, eq-eqb}
 use Rattle.std.specs.Prelude.{nat_eq}
 use Rattle.std.proofs.lemmas.Bool.Decides.{nat_tests}
 use Rattle.ruu_core.specs.Slots.{slot_named}

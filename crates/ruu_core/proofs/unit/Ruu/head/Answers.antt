@@ -1,5 +1,4 @@
 use Rattle.std.proofs.Common.{◌∙◌, sym, ap, cond, Some, None}
-use Rattle.ruu_core.specs.declared.station.Station.{Station}
 use Rattle.ruu_core.proofs.Calls.{head_answer, head_none}
 use Rattle.ruu_core.proofs.unit.Ruu.head.Goals as goal
 
