@@ -22,6 +22,7 @@ use Rattle.sim_safe.specs.declared.observer.RunEnd.TheVariants as ends
 use Rattle.sim_safe.proofs.Replays.{recording_more, recording_within, full_recording_stops}
 use Rattle.sim_watch.specs.Statistics.{statistics_of}
 use Rattle.sim_watch.specs.Watch.{run_journal}
+use Rattle.sim_watch.proofs.Texts.{run_output, run_report}
 use Rattle.journal.specs.declared.loading.Found.TheVariants as found
 use Rattle.journal.specs.Write.{output_of, report_of, Journal, Start, Append}
 use Rattle.journal.specs.Outcome.{Outcome}
@@ -32,7 +33,7 @@ use Rattle.answers.specs.Report.{statistics_text}
 use Rattle.answers.specs.JudgingLaws.{given_judged}
 use Rattle.run_commands.specs.Outcome.{SimSafeOutcome, trace_limit, ran, ran_for, recorded, recorded_for, ran_answer, ran_report, start_of, step_limit, trace_made, trace_text}
 use Rattle.run_commands.specs.Replay.{EndsAgain, IsReplayed, IsRecorded, made_by}
-use Rattle.run_commands.specs.TextLaws.{run_output, run_report, start_output, start_report}
+use Rattle.run_commands.specs.OutcomeLaws.{start_output, start_report}
 
 -- ---- the trace of a recording
 

@@ -21,6 +21,7 @@ use Rattle.sim_safe.specs.Recording.{serve}
 use Rattle.sim_safe.specs.Run.{items_of, items_front, end_of}
 use Rattle.sim_watch.specs.Watch.{last_piece, run_journal, written_of}
 use Rattle.sim_watch.proofs.Items.{onto_append, written_grow}
+use Rattle.sim_watch.proofs.Texts.{run_outputs, written_outputs}
 use Rattle.journal.specs.declared.loading.Found.{Found}
 use Rattle.journal.specs.declared.loading.Found.TheVariants as found
 use Rattle.journal.specs.Write.{Write, Start, Append, Output, Report, Journal, output_of, files_after, PartOfFiles, PartOfOutput}
@@ -35,9 +36,8 @@ use Rattle.answers.specs.Answer.{refused}
 use Rattle.answers.specs.Judging.{order_place, LoadsFile, LoadsNamed, LoadsEach, JudgesObject, JudgesOrder, JudgesRead, JudgesGiven}
 use Rattle.run_commands.specs.Outcome.{SimSafeOutcome, RecordOutcome, ran, ran_for, ran_report, recorded, recorded_end, recorded_for, start_of, step_limit, trace_made, trace_text, world_of}
 use Rattle.run_commands.specs.Far.{CameToLimit}
-use Rattle.run_commands.specs.OutcomeLaws.{ran_proper, recorded_proper}
+use Rattle.run_commands.specs.OutcomeLaws.{ran_proper, recorded_proper, start_output}
 use Rattle.run_commands.specs.Prefixes.{recording_first}
-use Rattle.run_commands.specs.TextLaws.{run_outputs, start_output, written_outputs}
 
 -- ---- where a write stands in two lists joined
 

@@ -14,7 +14,7 @@ use Rattle.sim_safe.specs.Run.{items_of, end_of}
 use Rattle.sim_watch.specs.Watch.{puts_of, is_short, piece_with, writes_of, written_of, run_journal}
 use Rattle.journal.specs.declared.fault.Fault.TheVariants as fault
 use Rattle.journal.specs.declared.loading.Found.{Found}
-use Rattle.journal.specs.Write.{Journal, Start, Append, Output, Report, Lacks}
+use Rattle.journal.specs.Write.{Journal, Start, Append, Output, Report, Lacks, output_of, report_of}
 use Rattle.journal.specs.Texts.{StartsFiles, IsProper}
 use Rattle.journal.specs.Propers.{Started, started_alone, started_append, started_output, proper_reported, proper_report}
 use Rattle.journal.specs.Outcome.{Outcome}
@@ -22,6 +22,16 @@ use Rattle.answers.specs.declared.answer.Answer.{Answer}
 use Rattle.answers.specs.Judging.{LoadsNamed, LoadsEach, JudgesObject, JudgesGiven}
 use Rattle.answers.specs.SoundLaws.{EachOf, file_all, named_all, each_all, object_all, given_all}
 use Rattle.run_commands.specs.Outcome.{SimSafeOutcome, RecordOutcome, ran, ran_to, ran_for, ran_report, recorded, recorded_for, recorded_end, start_of, trace_text, world_of}
+
+-- ---- the start of a file that may be named
+
+pub start_output : (file : Option (List ℕ)) → output_of (start_of file) ≡ []
+start_output None = refl
+start_output (Some file) = refl
+
+pub start_report : (file : Option (List ℕ)) → report_of (start_of file) ≡ []
+start_report None = refl
+start_report (Some file) = refl
 
 -- ---- the writes of items, behind the start of a file
 
