@@ -1,5 +1,5 @@
 -- What comes of a recording, by what its parts came to.
-use Rattle.std.proofs.Common.{◌≡◌, ◌<◌, ◌++◌, ℕ, List, [], ◌∷◌, length, get_or, Option, Some, Result, Ok, Err, Bor, refl, sym, ap, ◌∙◌, subst, append-nil}
+use Rattle.std.proofs.Common.{◌≡◌, ◌<◌, ◌++◌, ℕ, List, [], ◌∷◌, length, get_or, Some, Result, Ok, Bor, refl, sym, ap, ◌∙◌, subst, append-nil}
 use Rattle.std.proofs.lemmas.List.{length-map, get_or-map}
 use Rattle.std.specs.Prelude.{map, string_bytes, option_copied, OnOk, Vec, String, unwrap_or}
 use Rattle.ecoff_load.specs.declared.image.Image.{Image}
@@ -19,7 +19,7 @@ use Rattle.answers.specs.declared.answer.Answer.TheVariants as answer
 use Rattle.answers.specs.Answer.{refused}
 use Rattle.answers.specs.JudgingLaws.{object_judged, each_loaded, each_long}
 use Rattle.run_commands.specs.declared.world.Enclosed.{Enclosed}
-use Rattle.run_commands.specs.Outcome.{input_limit, named_input, object_limit, opened_inputs, record_inputs, world_of}
+use Rattle.run_commands.specs.Outcome.{input_limit, named_input, object_limit, opened_inputs, world_of}
 use Rattle.run_commands.specs.Replay.{IsRecorded}
 use Rattle.run_commands.specs.Parts.{GivenRecords, LoadedRecords, ObjectRecords, RecordingOutcomeOf, enclosed, made_for, names_in, record_inputs_of, recorded_of}
 use Rattle.run_commands.proofs.Named.{named_found, named_long}

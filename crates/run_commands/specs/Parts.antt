@@ -1,5 +1,5 @@
 -- What the parts of the commands say of each other.
-use Rattle.std.specs.Prelude.{◌≡◌, ℕ, Bool, List, [], map, string_bytes, Option, option_copied, unwrap_or, Result, Ok, Err}
+use Rattle.std.specs.Prelude.{◌≡◌, ℕ, Bool, List, [], map, string_bytes, Option, option_copied, unwrap_or, Result}
 use Rattle.ecoff_load.specs.declared.image.Image.{Image}
 use Rattle.ecoff_load.specs.Object.{IsObject, IsImage}
 use Rattle.event_trace.specs.declared.trace.Trace.{Trace}
@@ -20,7 +20,7 @@ use Rattle.answers.specs.declared.refusal.Refusal.{Refusal}
 use Rattle.answers.specs.Judging.{LoadsEach, LoadsNamed, JudgesObject, JudgesGiven, IsGiven, Judges}
 use Rattle.run_commands.specs.declared.judging.Program.{Program}
 use Rattle.run_commands.specs.declared.world.Enclosed.{Enclosed}
-use Rattle.run_commands.specs.Outcome.{SimSafeOutcome, ran, recorded, sim_safe_inputs, record_inputs, start_break, world_of}
+use Rattle.run_commands.specs.Outcome.{SimSafeOutcome, ran, recorded, sim_safe_inputs, record_inputs, world_of}
 use Rattle.run_commands.specs.Replay.{IsRecorded, RecordingOutcome, made_by}
 
 -- ---- requests

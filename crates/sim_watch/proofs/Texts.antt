@@ -5,7 +5,7 @@ use Rattle.event_trace.specs.declared.trace.Block.{Block}
 use Rattle.sim_safe.specs.Record.{Item}
 use Rattle.sim_safe.specs.Commit.{line_of, blocks_of, onto, block_bytes, output_of as output_of_item, output_joined, outputs_back, outputs_of, outputs_onto, text_back, text_of, text_onto}
 use Rattle.std.specs.List.{flat_map}
-use Rattle.sim_watch.specs.Watch.{puts_of, is_short, left_of, left_with, piece_of, piece_with, writes_of, written_of, last_piece, run_journal}
+use Rattle.sim_watch.specs.Watch.{puts_of, is_short, left_of, piece_of, piece_with, writes_of, written_of, last_piece, run_journal}
 use Rattle.journal.specs.Write.{output_of, report_of, Journal, Start, Append, Output}
 use Rattle.journal.specs.Texts.{text_in}
 use Rattle.journal.specs.Fronts.{same_name}
