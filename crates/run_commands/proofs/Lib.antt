@@ -1,5 +1,4 @@
 pub mod Runs
-pub mod OneByOne
 pub mod Replaying
 mod Breaks
 mod Named

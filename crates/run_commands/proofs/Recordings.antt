@@ -1,5 +1,6 @@
 -- What comes of a recording, by what its parts came to.
-use Rattle.std.proofs.Common.{◌≡◌, ℕ, List, [], ◌∷◌, Option, Some, Result, Ok, Err, refl, sym, ap, subst}
+use Rattle.std.proofs.Common.{◌≡◌, ◌<◌, ◌++◌, ℕ, List, [], ◌∷◌, length, get_or, Some, Result, Ok, Bor, refl, sym, ap, ◌∙◌, subst, append-nil}
+use Rattle.std.proofs.lemmas.List.{length-map, get_or-map}
 use Rattle.std.specs.Prelude.{map, string_bytes, option_copied, OnOk, Vec, String, unwrap_or}
 use Rattle.ecoff_load.specs.declared.image.Image.{Image}
 use Rattle.ecoff_load.specs.Object.{IsObject}
@@ -7,20 +8,20 @@ use Rattle.event_trace.specs.Grammar.{IsTrace}
 use Rattle.event_trace.specs.World.{File, files_of}
 use Rattle.sim_opts.specs.declared.request.Record.{Record}
 use Rattle.journal.specs.declared.fault.Fault.{Fault}
+use Rattle.journal.specs.declared.loading.Found.{Found}
 use Rattle.journal.specs.declared.loading.Found.TheVariants as found
-use Rattle.journal.specs.View.{View, Wrote}
-use Rattle.journal.specs.Load.{input, Finds}
+use Rattle.journal.specs.View.{View}
+use Rattle.journal.specs.Load.{input, inputs, found_of, Finds, FoundAll, FoundLong}
 use Rattle.journal.specs.Outcome.{Outcome, Ends, Comes}
-use Rattle.journal.specs.Loading.{comes_after, comes_now}
+use Rattle.journal.specs.Loading.{comes_after, comes_now, comes_map, comes_whole, comes_long}
 use Rattle.answers.specs.declared.answer.Answer.{Answer}
 use Rattle.answers.specs.declared.answer.Answer.TheVariants as answer
 use Rattle.answers.specs.Answer.{refused}
-use Rattle.answers.specs.JudgingLaws.{object_judged}
+use Rattle.answers.specs.JudgingLaws.{object_judged, each_loaded, each_long}
 use Rattle.run_commands.specs.declared.world.Enclosed.{Enclosed}
-use Rattle.run_commands.specs.Outcome.{input_limit, named_input, object_limit, opened_inputs, record_inputs, world_of}
+use Rattle.run_commands.specs.Outcome.{input_limit, named_input, object_limit, opened_inputs, world_of}
 use Rattle.run_commands.specs.Replay.{IsRecorded}
-use Rattle.run_commands.specs.Parts.{AreWhole, OneLong, GivenRecords, LoadedRecords, ObjectRecords, RecordingOutcomeOf, enclosed, made_for, names_in, record_inputs_of, recorded_of}
-use Rattle.run_commands.proofs.OneByOne.{each_comes, long_comes}
+use Rattle.run_commands.specs.Parts.{GivenRecords, LoadedRecords, ObjectRecords, RecordingOutcomeOf, enclosed, made_for, names_in, record_inputs_of, recorded_of}
 use Rattle.run_commands.proofs.Named.{named_found, named_long}
 use Rattle.run_commands.proofs.Replaying.{is_recorded}
 
@@ -37,17 +38,46 @@ loaded_comes v a b r object given files image p result e is valid rest =
     (is_recorded r.out.now r.max_inst r.object.now args result object image (world_of given files image) is valid2))
     rest2
 
--- the files that it can open are loaded
-pub given_comes : {O : Type 0} (v : View O) (a b c : O) (r : Record) (object given : List ℕ) (names : List (List ℕ)) (files : List File) (result : Result Answer Fault) → names ≡ names_in r
-    → Wrote v a [] b → AreWhole (v.tells a) (v.files a) names files → Comes v b [] (λ _. LoadedRecords r object given files result) c result → Comes v a (opened_inputs (names_in r)) (GivenRecords r object given result) c result
-given_comes v a b c r object given names files result e wrote whole rest =
-    each_comes v a b c (names_in r) files (λ opened. LoadedRecords r object given opened result) result wrote (subst (λ x. AreWhole (v.tells a) (v.files a) x files) e whole) rest
+-- ---- the files that it can open
+
+names_are : (names : List (List ℕ)) (limit : ℕ) → map (λ i. i.name) (inputs names limit) ≡ names
+names_are [] limit = refl
+names_are (name ∷ names) limit = ap (λ ns. name ∷ ns) (names_are names limit)
+
+count_is : (names : List (List ℕ)) (limit : ℕ) → length (inputs names limit) ≡ length names
+count_is names limit = length-map names (λ name. input name limit)
+
+-- a name by its place among references
+pub name_there : (names : List (Bor (List ℕ))) (k : ℕ) (d : Bor (List ℕ)) → k < length (inputs (map (λ n. n.now) names) input_limit) → (get_or names k d).now ≡ get_or (map (λ n. n.now) names) k []
+name_there names k d l =
+    let now : Bor (List ℕ) → List ℕ = λ n. n.now in
+    let within : k < length names = subst (λ m. k < m) (count_is (map now names) input_limit ∙ length-map names now) l in
+    sym (get_or-map now names k d [] within)
+
+-- all of them are found
+pub given_comes : {O A B : Type 0} (v : View O) (a b c : O) (r : Record) (object given : List ℕ) (names : List (List ℕ)) (files : List (String A × Vec ℕ B)) (result : Result Answer Fault) → names ≡ names_in r
+    → FoundAll v a (inputs names input_limit) b files → Comes v b [] (λ _. LoadedRecords r object given (files_of files) result) c result → Comes v a (opened_inputs (names_in r)) (GivenRecords r object given result) c result
+given_comes {O} {A} {B} v a b c r object given names files result e all rest =
+    let is = opened_inputs (names_in r) in
+    let Has : List Found → Outcome Answer → Type 0 = GivenRecords r object given result in
+    let all2 = subst (λ x. FoundAll v a (inputs x input_limit) b files) e all in
+    let rest2 = comes_map v b [] c (λ _. LoadedRecords r object given (files_of files) result) (λ fs. Has (map found_of files ++ fs)) result
+    (λ fs o x. each_loaded files (names_in r) fs o (λ opened _. LoadedRecords r object given opened result o) (all2.names ∙ names_are (names_in r) input_limit) x) rest in
+    subst (λ x. Comes v a x Has c result) (append-nil is) (comes_whole v a b c is [] files Has result all2 rest2)
 
 -- or one of them is too long
-pub given_long : {O : Type 0} (v : View O) (a b c : O) (r : Record) (object given : List ℕ) (names : List (List ℕ)) (name : List ℕ) (result : Result Answer Fault) → names ≡ names_in r
-    → Wrote v a [] b → OneLong (v.tells a) (v.files a) names name → Ends v b (refused (answer.TooLong name)) c result → Comes v a (opened_inputs (names_in r)) (GivenRecords r object given result) c result
-given_long v a b c r object given names name result e wrote long rest =
-    long_comes v a b c (names_in r) name (λ opened. LoadedRecords r object given opened result) result wrote (subst (λ x. OneLong (v.tells a) (v.files a) x name) e long) rest
+pub given_long : {O : Type 0} (v : View O) (a b c : O) (r : Record) (object given : List ℕ) (names : List (List ℕ)) (k : ℕ) (name : List ℕ) (result : Result Answer Fault) → names ≡ names_in r → name ≡ get_or names k []
+    → FoundLong v a (inputs names input_limit) b k → Ends v b (refused (answer.TooLong name)) c result → Comes v a (opened_inputs (names_in r)) (GivenRecords r object given result) c result
+given_long v a b c r object given names k name result e here long rest =
+    let is = opened_inputs (names_in r) in
+    let Has : List Found → Outcome Answer → Type 0 = GivenRecords r object given result in
+    let long2 = subst (λ x. FoundLong v a (inputs x input_limit) b k) e long in
+    let there : name ≡ get_or (names_in r) k [] = here ∙ ap (λ x. get_or x k []) e in
+    let within : k < length (names_in r) = subst (λ m. k < m) (count_is (names_in r) input_limit) long2.within in
+    let o : Outcome Answer = refused (answer.TooLong (get_or (names_in r) k [])) in
+    subst (λ x. Comes v a x Has c result) (append-nil is)
+    (comes_long v a b c is [] k Has o result long2 (λ fs more first. each_long (names_in r) fs more k (λ opened _. LoadedRecords r object given opened result o) first within)
+    (subst (λ n. Ends v b (refused (answer.TooLong n)) c result) there rest))
 
 -- the input is loaded
 pub object_comes : {O : Type 0} (v : View O) (a b c : O) (r : Record) (object name bytes given : List ℕ) (result : Result Answer Fault) → option_copied r.input ≡ Some name → given ≡ bytes

@@ -1,12 +1,11 @@
 -- A recording is replayed from the file that it wrote.
-use Rattle.std.proofs.Common.{◌≡◌, ℕ, ◌≤◌, ◌++◌, Bool, true, false, List, [], ◌∷◌, length, Option, Some, None, Result, Ok, Err, refl, sym, ap, ◌∙◌, subst, inr, arith, append-nil}
+use Rattle.std.proofs.Common.{◌≡◌, ℕ, ◌≤◌, ◌++◌, Bool, true, false, List, [], ◌∷◌, length, Option, Some, None, Result, Ok, Err, refl, sym, ap, ◌∙◌, inr, arith}
 use Rattle.std.specs.Prelude.{nat_le, if◌then◌else◌, OnOk}
 use Rattle.std.proofs.lemmas.Bool.Decides.{nat_tests}
 use Rattle.ecoff_load.specs.declared.image.Image.{Image}
 use Rattle.ecoff_load.specs.Object.{IsObject}
 use Rattle.pisa_step.specs.declared.cause.Cause.TheVariants as cause
 use Rattle.event_trace.specs.declared.trace.Trace.{Trace}
-use Rattle.event_trace.specs.declared.trace.Block.{Block}
 use Rattle.event_trace.specs.Grammar.{IsTrace, trace_bytes}
 use Rattle.event_trace.specs.Reading.{checked}
 use Rattle.event_trace.specs.Recorder.{empty_trace, is_within_limits, trace_size}
@@ -14,25 +13,23 @@ use Rattle.event_trace.specs.World.{WorldState}
 use Rattle.event_trace.proofs.WholeTrace.{is_only}
 use Rattle.sim_safe.specs.State.{State, start_state}
 use Rattle.sim_safe.specs.Record.{Item}
-use Rattle.sim_safe.specs.Commit.{line_of, blocks_of, onto}
 use Rattle.sim_safe.specs.Recording.{serve}
 use Rattle.sim_safe.specs.Run.{items_of, after, end_of}
 use Rattle.sim_safe.specs.declared.observer.RunEnd.{RunEnd}
 use Rattle.sim_safe.specs.declared.observer.RunEnd.TheVariants as ends
 use Rattle.sim_safe.proofs.Replays.{recording_more, recording_within, full_recording_stops}
-use Rattle.sim_watch.specs.Statistics.{statistics_of}
 use Rattle.sim_watch.specs.Watch.{run_journal}
+use Rattle.sim_watch.proofs.Texts.{run_output, run_report}
 use Rattle.journal.specs.declared.loading.Found.TheVariants as found
-use Rattle.journal.specs.Write.{output_of, report_of, Journal, Start, Append}
+use Rattle.journal.specs.Write.{output_of, report_of, Journal, Start}
 use Rattle.journal.specs.Outcome.{Outcome}
 use Rattle.journal.specs.Laws.{output_more, report_more}
 use Rattle.answers.specs.declared.answer.Answer.{Answer}
 use Rattle.answers.specs.Answer.{run_answer}
-use Rattle.answers.specs.Report.{statistics_text}
 use Rattle.answers.specs.JudgingLaws.{given_judged}
 use Rattle.run_commands.specs.Outcome.{SimSafeOutcome, trace_limit, ran, ran_for, recorded, recorded_for, ran_answer, ran_report, start_of, step_limit, trace_made, trace_text}
 use Rattle.run_commands.specs.Replay.{EndsAgain, IsReplayed, IsRecorded, made_by}
-use Rattle.run_commands.specs.TextLaws.{run_output, run_report, start_output, start_report}
+use Rattle.run_commands.specs.OutcomeLaws.{start_output, start_report}
 
 -- ---- the trace of a recording
 

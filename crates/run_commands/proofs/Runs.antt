@@ -12,9 +12,7 @@ use Rattle.sim_safe.specs.declared.statistics.Statistics.{Statistics}
 use Rattle.sim_safe.specs.State.{State, Storage, state_of, start_state}
 use Rattle.sim_safe.specs.Run.{items_of, after, end_of}
 use Rattle.sim_watch.specs.declared.recording.Recorded.{Recorded}
-use Rattle.sim_watch.specs.declared.run.Watched.{Watched}
 use Rattle.sim_watch.specs.Recorded.{EndsAs, RunRecorded, is_full, made_of}
-use Rattle.sim_watch.specs.Run.{RunWatched}
 use Rattle.sim_watch.specs.Statistics.{statistics_of}
 use Rattle.sim_watch.specs.Watch.{WritesOrCut, run_journal}
 use Rattle.journal.specs.declared.fault.Fault.{Fault}
@@ -22,7 +20,7 @@ use Rattle.journal.specs.declared.fault.Fault.TheVariants as fault
 use Rattle.journal.specs.Write.{Write, Journal, Start, Append, Report}
 use Rattle.journal.specs.View.{View, Wrote, Cut, GaveUp, Writes}
 use Rattle.journal.specs.Outcome.{Outcome, Ends, behind}
-use Rattle.journal.specs.Laws.{wrote_more, cut_more, cut_none, cut_within, cut_gave_up, gave_up_cut, gave_up_more, ends_more}
+use Rattle.journal.specs.Laws.{wrote_more, cut_more, cut_none, cut_within, cut_gave_up, gave_up_cut, ends_more}
 use Rattle.answers.specs.declared.answer.Answer.{Answer}
 use Rattle.answers.specs.Answer.{answered, run_answer}
 use Rattle.answers.specs.Report.{statistics_text}

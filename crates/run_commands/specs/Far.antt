@@ -1,7 +1,6 @@
 -- How far a command came that gave up, as one number of instructions.
 use Rattle.std.specs.Prelude.{◌-◌, ◌≤◌, ◌++◌, ℕ, List}
 use Rattle.ss_base.specs.Outside.{Files, BeginsWith}
-use Rattle.journal.specs.declared.loading.Found.{Found}
 use Rattle.journal.specs.Write.{GotFront, output_of}
 use Rattle.journal.specs.Texts.{FileFronts}
 use Rattle.journal.specs.Outcome.{Outcome}

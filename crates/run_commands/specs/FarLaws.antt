@@ -1,12 +1,10 @@
 -- Laws from the place in its writes at which a command gave up to one number of instructions.
-use Rattle.std.proofs.Common.{◌≡◌, ◌⊎◌, ◌≤◌, ◌<◌, ◌+◌, ◌-◌, ◌^◌, ◌++◌, ℕ, zero, suc, Bool, List, [], ◌∷◌, Option, Some, None, Result, Ok, Err, min, refl, sym, ap, ◌∙◌, subst, inl, inr, append_assoc, append-nil, arith, add-one}
+use Rattle.std.proofs.Common.{◌≡◌, ◌⊎◌, ◌≤◌, ◌-◌, ◌++◌, ℕ, zero, suc, Bool, List, [], ◌∷◌, Option, Some, None, Result, Ok, Err, refl, sym, ap, ◌∙◌, subst, inl, inr, append_assoc, append-nil, arith}
 use Rattle.std.specs.Prelude.{unwrap_or}
 use Rattle.std.proofs.Math.Seq.{take-length}
 use Rattle.ss_base.specs.Outside.{Files, BeginsWith}
 use Rattle.ss_base.specs.Begins.{begins_front}
-use Rattle.ecoff_load.specs.declared.fault.Refusal.{Refusal as Misfit}
 use Rattle.ecoff_load.specs.declared.image.Image.{Image}
-use Rattle.ecoff_load.specs.Object.{IsObject}
 use Rattle.event_trace.specs.declared.fault.TraceFault.{TraceFault}
 use Rattle.event_trace.specs.declared.fault.TraceFault.TheVariants as trace_fault
 use Rattle.event_trace.specs.declared.trace.Trace.{Trace}
@@ -21,9 +19,10 @@ use Rattle.sim_safe.specs.Recording.{serve}
 use Rattle.sim_safe.specs.Run.{items_of, items_front, end_of}
 use Rattle.sim_watch.specs.Watch.{last_piece, run_journal, written_of}
 use Rattle.sim_watch.proofs.Items.{onto_append, written_grow}
+use Rattle.sim_watch.proofs.Texts.{run_outputs, written_outputs}
 use Rattle.journal.specs.declared.loading.Found.{Found}
 use Rattle.journal.specs.declared.loading.Found.TheVariants as found
-use Rattle.journal.specs.Write.{Write, Start, Append, Output, Report, Journal, output_of, files_after, PartOfFiles, PartOfOutput}
+use Rattle.journal.specs.Write.{Write, Start, Append, Output, Report, Journal, output_of, PartOfOutput}
 use Rattle.journal.specs.Texts.{StartsFiles}
 use Rattle.journal.specs.Outcome.{Outcome}
 use Rattle.journal.specs.Clauses.{CameTo}
@@ -32,12 +31,11 @@ use Rattle.journal.specs.Laws.{output_more}
 use Rattle.answers.specs.declared.answer.Answer.{Answer}
 use Rattle.answers.specs.declared.answer.Answer.TheVariants as answer
 use Rattle.answers.specs.Answer.{refused}
-use Rattle.answers.specs.Judging.{order_place, LoadsFile, LoadsNamed, LoadsEach, JudgesObject, JudgesOrder, JudgesRead, JudgesGiven}
+use Rattle.answers.specs.Judging.{LoadsFile, LoadsNamed, LoadsEach, JudgesObject, JudgesRead, JudgesGiven}
 use Rattle.run_commands.specs.Outcome.{SimSafeOutcome, RecordOutcome, ran, ran_for, ran_report, recorded, recorded_end, recorded_for, start_of, step_limit, trace_made, trace_text, world_of}
 use Rattle.run_commands.specs.Far.{CameToLimit}
-use Rattle.run_commands.specs.OutcomeLaws.{ran_proper, recorded_proper}
+use Rattle.run_commands.specs.OutcomeLaws.{ran_proper, recorded_proper, start_output}
 use Rattle.run_commands.specs.Prefixes.{recording_first}
-use Rattle.run_commands.specs.TextLaws.{run_outputs, start_output, written_outputs}
 
 -- ---- where a write stands in two lists joined
 

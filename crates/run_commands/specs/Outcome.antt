@@ -1,5 +1,5 @@
 -- What comes of the commands sim-safe and record where nothing fails: what they answer, and what they write.
-use Rattle.std.specs.Prelude.{◌≡◌, ◌+◌, ◌-◌, ◌*◌, ◌/◌, ◌^◌, ℕ, Bool, List, [], ◌∷◌, ◌++◌, max, min, map, Option, Some, None, unwrap_or, if◌then◌else◌}
+use Rattle.std.specs.Prelude.{◌≡◌, ◌+◌, ◌-◌, ◌*◌, ◌/◌, ◌^◌, ℕ, Bool, List, [], ◌∷◌, ◌++◌, max, min, Option, Some, None, unwrap_or, if◌then◌else◌}
 use Rattle.ecoff_load.specs.declared.image.Image.{Image}
 use Rattle.ecoff_load.specs.declared.image.Part.{Part}
 use Rattle.event_trace.specs.declared.trace.Trace.{Trace}
@@ -15,7 +15,7 @@ use Rattle.sim_watch.specs.Statistics.{statistics_of}
 use Rattle.sim_watch.specs.Watch.{run_journal}
 use Rattle.journal.specs.declared.loading.Found.{Found}
 use Rattle.journal.specs.Write.{Journal, Start, Append, Report}
-use Rattle.journal.specs.Load.{Input, input}
+use Rattle.journal.specs.Load.{Input, input, inputs}
 use Rattle.journal.specs.Outcome.{Outcome}
 use Rattle.answers.specs.declared.answer.Answer.{Answer}
 use Rattle.answers.specs.Answer.{answered, run_answer}
@@ -41,7 +41,7 @@ named_input limit (Some name) others = input name limit ∷ others
 
 -- the files that a program can open
 abbrev pub opened_inputs : List (List ℕ) → List Input
-opened_inputs files = map (λ name. input name input_limit) files
+opened_inputs files = inputs files input_limit
 
 abbrev pub sim_safe_inputs : (trace : Option (List ℕ)) (object : List ℕ) → List Input
 sim_safe_inputs trace object = input object object_limit ∷ named_input trace_limit trace []

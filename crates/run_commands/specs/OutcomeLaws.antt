@@ -1,27 +1,36 @@
 -- What sim-safe and record write is proper: a file is made empty before bytes are added to it, and the report
 -- comes last.
-use Rattle.std.proofs.Common.{◌≡◌, ◌≢◌, ◌++◌, ℕ, Bool, true, false, List, [], ◌∷◌, Option, Some, None, refl, sym, ap, ◌∙◌, subst, append_assoc, append-nil, if◌then◌else◌}
+use Rattle.std.proofs.Common.{◌≡◌, ◌++◌, ℕ, Bool, true, false, List, [], ◌∷◌, Option, Some, None, refl, sym, ◌∙◌, subst, append_assoc, append-nil, if◌then◌else◌}
 use Rattle.std.specs.Prelude.{unwrap_or}
 use Rattle.ecoff_load.specs.declared.image.Image.{Image}
 use Rattle.event_trace.specs.declared.trace.Block.{Block}
 use Rattle.event_trace.specs.declared.trace.Trace.{Trace}
-use Rattle.event_trace.specs.World.{File, WorldState}
-use Rattle.sim_safe.specs.declared.observer.RunEnd.{RunEnd}
+use Rattle.event_trace.specs.World.{File}
 use Rattle.sim_safe.specs.State.{State, start_state}
 use Rattle.sim_safe.specs.Record.{Item}
 use Rattle.sim_safe.specs.Commit.{line_of, blocks_of, onto}
 use Rattle.sim_safe.specs.Run.{items_of, end_of}
-use Rattle.sim_watch.specs.Watch.{puts_of, is_short, piece_with, writes_of, written_of, run_journal}
+use Rattle.sim_watch.specs.Watch.{puts_of, is_short, piece_with, written_of}
 use Rattle.journal.specs.declared.fault.Fault.TheVariants as fault
 use Rattle.journal.specs.declared.loading.Found.{Found}
-use Rattle.journal.specs.Write.{Journal, Start, Append, Output, Report, Lacks}
+use Rattle.journal.specs.Write.{Journal, Start, Append, Output, Report, Lacks, output_of, report_of}
 use Rattle.journal.specs.Texts.{StartsFiles, IsProper}
 use Rattle.journal.specs.Propers.{Started, started_alone, started_append, started_output, proper_reported, proper_report}
 use Rattle.journal.specs.Outcome.{Outcome}
 use Rattle.answers.specs.declared.answer.Answer.{Answer}
 use Rattle.answers.specs.Judging.{LoadsNamed, LoadsEach, JudgesObject, JudgesGiven}
 use Rattle.answers.specs.SoundLaws.{EachOf, file_all, named_all, each_all, object_all, given_all}
-use Rattle.run_commands.specs.Outcome.{SimSafeOutcome, RecordOutcome, ran, ran_to, ran_for, ran_report, recorded, recorded_for, recorded_end, start_of, trace_text, world_of}
+use Rattle.run_commands.specs.Outcome.{SimSafeOutcome, RecordOutcome, ran, ran_for, ran_report, recorded, recorded_for, recorded_end, start_of, trace_text, world_of}
+
+-- ---- the start of a file that may be named
+
+pub start_output : (file : Option (List ℕ)) → output_of (start_of file) ≡ []
+start_output None = refl
+start_output (Some file) = refl
+
+pub start_report : (file : Option (List ℕ)) → report_of (start_of file) ≡ []
+start_report None = refl
+start_report (Some file) = refl
 
 -- ---- the writes of items, behind the start of a file
 

@@ -1,10 +1,9 @@
 -- What the parts of the commands say of each other.
-use Rattle.std.specs.Prelude.{◌≡◌, ◌++◌, ℕ, Bool, List, [], ◌∷◌, map, string_bytes, Option, Some, None, option_copied, unwrap_or, Result, Ok, Err}
-use Rattle.ss_base.specs.Outside.{Files}
+use Rattle.std.specs.Prelude.{◌≡◌, ℕ, Bool, List, [], map, string_bytes, Option, option_copied, unwrap_or, Result}
 use Rattle.ecoff_load.specs.declared.image.Image.{Image}
 use Rattle.ecoff_load.specs.Object.{IsObject, IsImage}
 use Rattle.event_trace.specs.declared.trace.Trace.{Trace}
-use Rattle.event_trace.specs.World.{File, files_of}
+use Rattle.event_trace.specs.World.{File}
 use Rattle.sim_safe.specs.declared.observer.RunEnd.{RunEnd}
 use Rattle.sim_safe.specs.declared.observer.RunEnd.TheVariants as ends
 use Rattle.sim_safe.specs.declared.recording.RecordEnd.{RecordEnd}
@@ -13,20 +12,15 @@ use Rattle.sim_safe.specs.State.{start_state}
 use Rattle.sim_safe.specs.Record.{IsRunTrace}
 use Rattle.sim_opts.specs.declared.request.SimSafe.{SimSafe}
 use Rattle.sim_opts.specs.declared.request.Record.{Record}
-use Rattle.journal.specs.declared.fault.Fault.{Fault}
 use Rattle.journal.specs.declared.loading.Found.{Found}
-use Rattle.journal.specs.declared.loading.Found.TheVariants as found
-use Rattle.journal.specs.View.{View, Wrote}
-use Rattle.journal.specs.Load.{Input, input, IsFound, GaveUpLoading}
+use Rattle.journal.specs.Load.{Input}
 use Rattle.journal.specs.Outcome.{Outcome}
 use Rattle.answers.specs.declared.answer.Answer.{Answer}
 use Rattle.answers.specs.declared.refusal.Refusal.{Refusal}
 use Rattle.answers.specs.Judging.{LoadsEach, LoadsNamed, JudgesObject, JudgesGiven, IsGiven, Judges}
 use Rattle.run_commands.specs.declared.judging.Program.{Program}
-use Rattle.run_commands.specs.declared.opening.Opened.{Opened}
-use Rattle.run_commands.specs.declared.opening.Opened.TheVariants as opened
 use Rattle.run_commands.specs.declared.world.Enclosed.{Enclosed}
-use Rattle.run_commands.specs.Outcome.{SimSafeOutcome, input_limit, opened_inputs, ran, recorded, sim_safe_inputs, record_inputs, start_break, world_of}
+use Rattle.run_commands.specs.Outcome.{SimSafeOutcome, ran, recorded, sim_safe_inputs, record_inputs, world_of}
 use Rattle.run_commands.specs.Replay.{IsRecorded, RecordingOutcome, made_by}
 
 -- ---- requests
@@ -69,30 +63,6 @@ ObjectRuns r program loaded o = LoadsNamed (option_copied r.trace) loaded o (λ 
 
 abbrev pub LoadedRuns : SimSafe → List ℕ → Option (List ℕ) → Outcome Answer → Type 0
 LoadedRuns r program calls o = JudgesObject program o (λ image. JudgesGiven calls image.text.big o (λ given. o ≡ run_of r (record { image = image; trace = given })))
-
--- ---- files that a program can open
-
--- each of these files was found whole, and has its name
-abbrev pub AreWhole : Type 0 → Files → List (List ℕ) → List File → Type 0
-AreWhole Told held [] [] = Unit {0}
-AreWhole Told held [] (f ∷ fs) = ⊥
-AreWhole Told held (name ∷ names) [] = ⊥
-AreWhole Told held (name ∷ names) (f ∷ fs) = (f.name ≡ name) × IsFound Told held (input name input_limit) (found.Whole f.bytes) × AreWhole Told held names fs
-
--- one of these files is too long, and those before it were found whole
-pub record OneLong (Told : Type 0) (held : Files) (names : List (List ℕ)) (name : List ℕ) : Type 0 where
-  pub before : List (List ℕ)
-  pub files : List File
-  pub after : List (List ℕ)
-  pub all : names ≡ before ++ name ∷ after
-  pub whole : AreWhole Told held before files
-  pub long : IsFound Told held (input name input_limit) found.TooLong
-
--- files are found one after the other, up to the first that is too long
-abbrev pub FindsEach : {O : Type 0} → View O → O → List (List ℕ) → O → Result Opened Fault → Type 0
-FindsEach v a names b (Ok (opened.Whole files)) = Wrote v a [] b × AreWhole (v.tells a) (v.files a) names (files_of files.items)
-FindsEach v a names b (Ok (opened.TooLong name)) = Wrote v a [] b × OneLong (v.tells a) (v.files a) names name.now
-FindsEach v a names b (Err f) = GaveUpLoading v a (opened_inputs names) f b
 
 -- ---- what is recorded
 

@@ -8,7 +8,6 @@ use Rattle.event_trace.specs.World.{WorldState}
 use Rattle.sim_safe.specs.declared.observer.RunEnd.TheVariants as ends
 use Rattle.sim_safe.specs.State.{State, start_state}
 use Rattle.sim_safe.specs.Run.{after}
-use Rattle.journal.specs.declared.fault.Fault.{Fault}
 use Rattle.journal.specs.declared.loading.Found.{Found}
 use Rattle.journal.specs.declared.loading.Found.TheVariants as found
 use Rattle.journal.specs.Write.{output_of, report_of}

@@ -7,10 +7,11 @@
 #![tactic(auto)]
 
 mod judging;
-mod opening;
 mod recording;
 mod running;
 mod safe;
+#[cfg(test)]
+mod tests;
 mod world;
 
 pub use recording::record;

@@ -16,18 +16,20 @@ ghost use Rattle.journal.specs.Outcome.{Comes, Ends};
 ghost use Rattle.run_commands.specs.Outcome.{input_limit, named_input, opened_inputs, ran_to, recorded_end, trace_text};
 ghost use Rattle.run_commands.specs.Parts.{names_in, record_inputs_of, RecordingOutcomeOf, ObjectRecords, GivenRecords, LoadedRecords, made_for, recorded_of, run_end};
 
-use crate::opening::{INPUT_LIMIT, Opened, find_each};
 use crate::running::MOST_INSTRUCTIONS;
 use crate::safe::OBJECT_LIMIT;
 use crate::world::{Enclosed, enclose};
 use answers::{Answer, judge_object, refuse, refuse_long, report_run};
 use ecoff_load::StartFault;
 use event_trace::{Recorder, write};
-use journal::{Fault, Found, Outside, find_file};
+use journal::{Fault, Found, FoundEach, Outside, find_each, find_file};
 use sim_opts::Record;
 use sim_safe::{Arch, RecordEnd, RunEnd};
 use sim_watch::watched_record;
 use std::alloc::Global;
+
+/// The longest input, and the longest file that a program can open, in bytes.
+const INPUT_LIMIT: u64 = 16_777_216;
 
 /// The end of a recorded run. One whose trace is full ends as at its budget.
 fn run_end(end: RecordEnd) -> RunEnd
@@ -146,9 +148,12 @@ fn record_given<O: Outside>(
     requires { (big : Bool) → length (block big (map string_bytes request.now.args.now)) ≤ 16384 }
     ensures { Comes O.view outside.old (opened_inputs (names_in request.now)) (GivenRecords request.now object.now input.items result) outside.new result }
 {
-    match find_each(alloc, request.files.as_slice(), outside) {
-        Ok(Opened::Whole(files)) => record_loaded(alloc, object, input, files, request, outside),
-        Ok(Opened::TooLong(name)) => refuse_long(alloc, name, outside),
+    let names = request.files.as_slice();
+    match find_each(alloc, names, INPUT_LIMIT, outside) {
+        Ok(FoundEach::Whole(files)) => {
+            record_loaded(alloc, object, input, files, request, outside)
+        }
+        Ok(FoundEach::TooLong(at)) => refuse_long(alloc, names[at], outside),
         Err(fault) => Err(fault),
     }
 }

@@ -1,6 +1,6 @@
 -- What is written of one item, and of further ones.
-use Rattle.std.specs.Prelude.{◌≡◌, ◌≢◌, ◌≤◌, ◌<◌, ◌+◌, ◌++◌, ℕ, Bool, true, false, List, [], ◌∷◌, length, Option, Some, None, unwrap_or, if◌then◌else◌}
-use Rattle.std.proofs.Common.{refl, sym, ap, ◌∙◌, subst, append_assoc, append-nil, take, drop, get_or, inl, inr}
+use Rattle.std.specs.Prelude.{◌≡◌, ◌≤◌, ◌<◌, ◌+◌, ◌++◌, ℕ, Bool, true, false, List, [], ◌∷◌, length, Option, Some, None, if◌then◌else◌}
+use Rattle.std.proofs.Common.{refl, sym, ap, ◌∙◌, subst, append_assoc, append-nil, take, drop, get_or}
 use Rattle.std.proofs.lemmas.Bool.{le-ltb}
 use Rattle.std.proofs.lemmas.List.{take_more, take-append-drop}
 use Rattle.event_trace.specs.declared.trace.Block.{Block}
@@ -13,7 +13,7 @@ use Rattle.sim_safe.specs.declared.observer.Meaning.{Meaning}
 use Rattle.sim_safe.specs.Record.{Item}
 use Rattle.sim_safe.specs.Commit.{line_of, blocks_of, onto}
 use Rattle.sim_safe.specs.Observed.{Faulted}
-use Rattle.sim_watch.specs.Watch.{puts_of, is_short, piece_of, left_of, piece_with, left_with, writes_of, Written, written_of, last_piece, faults_of, meaning_of, CutBehind, CutAtNewest, CutByKept}
+use Rattle.sim_watch.specs.Watch.{puts_of, is_short, piece_of, piece_with, left_with, writes_of, written_of, faults_of, meaning_of, CutAtNewest}
 
 -- ---- blocks
 

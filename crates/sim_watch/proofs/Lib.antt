@@ -4,3 +4,4 @@ mod Totals
 pub mod Items
 mod Runs
 mod Recordings
+pub mod Texts

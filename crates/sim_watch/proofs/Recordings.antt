@@ -1,6 +1,6 @@
 -- What a watched run that was recorded came to.
-use Rattle.std.specs.Prelude.{◌≡◌, ◌++◌, ℕ, Bool, List, [], Option, None, Result, Ok, Err}
-use Rattle.std.proofs.Common.{refl, sym, ap, subst}
+use Rattle.std.specs.Prelude.{◌≡◌, ℕ, Bool, List, [], Option, None, Ok}
+use Rattle.std.proofs.Common.{sym, ap, subst}
 use Rattle.event_trace.specs.declared.trace.Trace.{Trace}
 use Rattle.event_trace.specs.Recorder.{RecorderState}
 use Rattle.journal.specs.declared.fault.Fault.{Fault}
@@ -9,7 +9,6 @@ use Rattle.sim_safe.specs.declared.recording.RecordEnd.{RecordEnd}
 use Rattle.sim_safe.specs.declared.recording.RecordEnd.TheVariants as ends
 use Rattle.sim_safe.specs.declared.statistics.Statistics.{Statistics}
 use Rattle.sim_safe.specs.State.{State}
-use Rattle.sim_safe.specs.Record.{Item}
 use Rattle.sim_safe.specs.Commit.{onto}
 use Rattle.sim_safe.specs.Run.{items_of}
 use Rattle.sim_safe.specs.Recording.{Records, RecordState, RecordsFront}

@@ -1,6 +1,6 @@
 -- What a run has written, or was cut within, as the journal of the whole run.
 use Rattle.std.specs.Prelude.{◌≡◌, ◌≤◌, ◌++◌, ℕ, List, [], ◌∷◌, Option, Some, None, unwrap_or, Result, Ok, Err}
-use Rattle.std.proofs.Common.{refl, sym, ap, ◌∙◌, subst, append_assoc, inl, inr}
+use Rattle.std.proofs.Common.{sym, ap, ◌∙◌, subst, inr}
 use Rattle.event_trace.specs.declared.trace.Trace.{Trace}
 use Rattle.journal.specs.declared.fault.Fault.{Fault}
 use Rattle.journal.specs.declared.fault.Fault.TheVariants as fault

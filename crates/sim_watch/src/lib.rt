@@ -4,12 +4,14 @@
 //! the order of the run, and after a fault nothing behind the write that failed is done.
 #![tactic(auto)]
 
+mod laws;
 mod recording;
 mod run;
 #[cfg(test)]
 mod tests;
 mod watch;
 
+pub use laws::runs_write_text_and_output;
 pub use recording::{Recorded, watched_record};
 pub use run::{Watched, watched_run};
 pub use watch::TextWatch;

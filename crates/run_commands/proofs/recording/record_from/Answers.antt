@@ -1,7 +1,5 @@
-use Rattle.std.proofs.Common.{◌≡◌, ◌∙◌, ◌++◌, List, [], ◌∷◌, subst, sym, ap}
+use Rattle.std.proofs.Common.{[], ◌∷◌}
 use Rattle.std.specs.Prelude.{None}
-use Rattle.event_trace.specs.declared.trace.Trace.{Trace}
-use Rattle.event_trace.specs.Grammar.{IsTrace}
 use Rattle.sim_safe.specs.State.{state_of}
 use Rattle.sim_safe.specs.Run.{items_of}
 use Rattle.sim_watch.specs.Recorded.{made_of}

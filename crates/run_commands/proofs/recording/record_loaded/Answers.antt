@@ -1,15 +1,10 @@
 use Rattle.std.specs.Prelude.{[], map, string_bytes}
-use Rattle.std.proofs.Common.{subst, sym}
-use Rattle.sim_safe.specs.State.{start_state}
 use Rattle.event_trace.specs.World.{files_of}
-use Rattle.journal.specs.Outcome.{Comes}
-use Rattle.journal.specs.Loading.{comes_now}
 use Rattle.answers.specs.Judging.{JudgesObject}
-use Rattle.answers.specs.JudgingLaws.{object_judged, object_never, comes_refused, refuses_map}
-use Rattle.run_commands.specs.declared.world.Enclosed.{Enclosed}
+use Rattle.answers.specs.JudgingLaws.{object_never, comes_refused, refuses_map}
 use Rattle.run_commands.specs.Outcome.{world_of}
 use Rattle.run_commands.specs.Replay.{IsRecorded}
-use Rattle.run_commands.specs.Parts.{LoadedRecords, enclosed, recorded_of}
+use Rattle.run_commands.specs.Parts.{LoadedRecords}
 use Rattle.run_commands.proofs.Recordings.{loaded_comes}
 use Rattle.run_commands.proofs.recording.record_loaded.Goals as goal
 

@@ -1,6 +1,4 @@
-use Rattle.std.specs.Prelude.{◌≡◌, [], map, string_bytes, refl}
-use Rattle.std.specs.Option.{option_copied}
-use Rattle.sim_safe.specs.State.{start_state}
+use Rattle.std.specs.Prelude.{◌≡◌, [], refl}
 use Rattle.journal.specs.Loading.{comes_now}
 use Rattle.answers.specs.Judging.{JudgesObject, JudgesGiven}
 use Rattle.answers.specs.JudgingLaws.{object_judged, object_map, given_judged, given_never, comes_refused, refuses_map}

@@ -1,6 +1,5 @@
-use Rattle.std.proofs.Common.{◌≡◌, ℕ, List, [], Option, Some, ap}
+use Rattle.std.proofs.Common.{[], ap}
 use Rattle.std.specs.Option.{option_copied}
-use Rattle.journal.specs.Load.{input}
 use Rattle.run_commands.specs.Outcome.{trace_limit}
 use Rattle.run_commands.specs.Parts.{LoadedRuns}
 use Rattle.run_commands.proofs.Named.{named_found, named_long}

@@ -1,4 +1,4 @@
-use Rattle.std.proofs.Common.{◌≡◌, ℕ, List, [], ◌∷◌, refl, subst}
+use Rattle.std.proofs.Common.{ℕ, List, [], ◌∷◌, refl, subst}
 use Rattle.std.specs.Option.{option_copied}
 use Rattle.journal.specs.declared.loading.Found.TheVariants as found
 use Rattle.journal.specs.Load.{input}

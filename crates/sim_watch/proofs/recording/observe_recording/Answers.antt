@@ -1,11 +1,11 @@
 use Rattle.std.specs.Option.{option_copied}
-use Rattle.std.proofs.Common.{◌-◌, ◌∙◌, [], refl, arith, inl, inr}
+use Rattle.std.proofs.Common.{◌-◌, [], refl, arith, inl, inr}
 use Rattle.std.specs.Prelude.{None}
 use Rattle.journal.specs.declared.fault.Fault.TheVariants as fault
 use Rattle.sim_safe.specs.State.{state_of}
 use Rattle.sim_safe.specs.Commit.{onto}
 use Rattle.sim_safe.specs.Run.{items_of}
-use Rattle.sim_watch.specs.Watch.{written_of, last_piece, nothing_written, nothing_pending}
+use Rattle.sim_watch.specs.Watch.{written_of, nothing_written, nothing_pending}
 use Rattle.sim_watch.specs.Recorded.{made_of}
 use Rattle.sim_watch.proofs.Steps.{steps_counted}
 use Rattle.sim_watch.proofs.Totals.{statistics_whole}

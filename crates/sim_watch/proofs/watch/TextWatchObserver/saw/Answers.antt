@@ -1,5 +1,5 @@
 use Rattle.std.specs.Option.{option_copied}
-use Rattle.std.proofs.Common.{◌++◌, sym, ap, ◌∙◌, subst, arith}
+use Rattle.std.proofs.Common.{sym, ap, ◌∙◌, subst, arith}
 use Rattle.sim_safe.specs.Record.{item_of}
 use Rattle.sim_safe.specs.Commit.{line_of}
 use Rattle.sim_safe.specs.Statistics.{IsCountable, counted}

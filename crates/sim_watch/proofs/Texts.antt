@@ -1,14 +1,15 @@
 -- The text, the output and the report of a run's journal.
-use Rattle.std.proofs.Common.{◌≡◌, ℕ, ◌++◌, Bool, true, false, List, [], ◌∷◌, Option, Some, None, refl, sym, ap, ◌∙◌, append-nil, append_assoc}
-use Rattle.std.specs.Prelude.{if◌then◌else◌}
+use Rattle.std.proofs.Common.{◌≡◌, ℕ, ◌++◌, Bool, true, false, List, [], ◌∷◌, Option, Some, None, refl, sym, ap, ◌∙◌, subst, append-nil, append_assoc}
+use Rattle.std.specs.Prelude.{bytes_eq, if◌then◌else◌, unwrap_or}
 use Rattle.event_trace.specs.declared.trace.Block.{Block}
 use Rattle.sim_safe.specs.Record.{Item}
-use Rattle.sim_safe.specs.Commit.{line_of, blocks_of, onto, block_bytes, output_of as output_of_item, outputs_back, outputs_of, outputs_onto}
+use Rattle.sim_safe.specs.Commit.{line_of, blocks_of, onto, block_bytes, output_of as output_of_item, outputs_back, outputs_of, outputs_onto, text_back, text_of, text_onto}
 use Rattle.std.specs.List.{flat_map}
-use Rattle.sim_watch.specs.Watch.{puts_of, is_short, piece_of, piece_with, writes_of, written_of, last_piece, run_journal}
-use Rattle.journal.specs.Write.{output_of, report_of, Journal, Append, Output}
+use Rattle.sim_watch.specs.Watch.{puts_of, is_short, left_of, piece_of, piece_with, writes_of, written_of, last_piece, run_journal}
+use Rattle.journal.specs.Write.{output_of, report_of, Journal, Start, Append, Output}
+use Rattle.journal.specs.Texts.{text_in}
+use Rattle.journal.specs.Fronts.{same_name}
 use Rattle.journal.specs.Laws.{output_more, report_more}
-use Rattle.run_commands.specs.Outcome.{start_of}
 
 -- ---- the output
 
@@ -51,10 +52,6 @@ run_outputs file is =
 pub run_output : (file other : Option (List ℕ)) (is : List Item) → output_of (run_journal file is) ≡ output_of (run_journal other is)
 run_output file other is = run_outputs file is ∙ sym (run_outputs other is)
 
-pub start_output : (file : Option (List ℕ)) → output_of (start_of file) ≡ []
-start_output None = refl
-start_output (Some file) = refl
-
 -- ---- no report
 
 puts_report : (blocks : List Block) → report_of (puts_of blocks) ≡ []
@@ -93,6 +90,47 @@ run_report file is =
     let w = written_of file [] (onto is []) in
     both_empty (report_of w.journal) (report_of (last_piece file w.pending)) (report_of (run_journal file is)) (report_more (last_piece file w.pending) w.journal) (written_report file [] (onto is [])) (last_report file w.pending)
 
-pub start_report : (file : Option (List ℕ)) → report_of (start_of file) ≡ []
-start_report None = refl
-start_report (Some file) = refl
+-- ---- the text
+
+-- what was written to a file, and what is pending, is a text
+record TextAt (file : List ℕ) (h : Journal) (pending whole : List ℕ) : Type 0 where
+  text : List ℕ
+  is : text_in h file ≡ Some text
+  all : text ++ pending ≡ whole
+
+named : (file x : List ℕ) (y : Option (List ℕ)) → (if bytes_eq file file then Some x else y) ≡ Some x
+named file x y = ap (λ (b : Bool). if b then Some x else y) (same_name file)
+
+text_puts : (file : List ℕ) (blocks : List Block) (h : Journal) (pending whole : List ℕ) → TextAt file h pending whole → TextAt file (puts_of blocks ++ h) pending whole
+text_puts file [] h pending whole q = q
+text_puts file (b ∷ bs) h pending whole q =
+    subst (λ l. TextAt file l pending whole) (sym (append_assoc (puts_of bs) (Output b.bytes ∷ []) h)) (text_puts file bs (Output b.bytes ∷ h) pending whole (record { text = q.text; is = q.is; all = q.all }))
+
+text_piece : (short : Bool) (file pending line whole : List ℕ) (h : Journal) → TextAt file h pending whole
+    → TextAt file ((if short then [] else Append file (pending ++ line) ∷ []) ++ h) (if short then pending ++ line else []) (whole ++ line)
+text_piece true file pending line whole h q = record { text = q.text; is = q.is; all = sym (append_assoc q.text pending line) ∙ ap (λ l. l ++ line) q.all }
+text_piece false file pending line whole h q = record {
+  text = q.text ++ (pending ++ line);
+  is = named file (unwrap_or (text_in h file) [] ++ (pending ++ line)) (text_in h file) ∙ ap (λ x. Some (unwrap_or x [] ++ (pending ++ line))) q.is;
+  all = append-nil (q.text ++ (pending ++ line)) ∙ sym (append_assoc q.text pending line) ∙ ap (λ l. l ++ line) q.all;
+}
+
+text_at : (file : List ℕ) (h : List Item) → TextAt file ((written_of (Some file) [] h).journal ++ Start file ∷ []) (written_of (Some file) [] h).pending (text_back h)
+unfolding written_of
+text_at file [] = record { text = []; is = named file [] None; all = refl }
+text_at file (i ∷ h) =
+    let w = written_of (Some file) [] h in
+    let start = Start file ∷ [] in
+    let text = w.pending ++ line_of i in
+    let puts = puts_of (blocks_of i) in
+    let piece = piece_of file text in
+    let q = text_piece (is_short text) file w.pending (line_of i) (text_back h) (puts ++ (w.journal ++ start)) (text_puts file (blocks_of i) (w.journal ++ start) w.pending (text_back h) (text_at file h)) in
+    subst (λ l. TextAt file l (left_of text) (text_back h ++ line_of i)) (sym (append_assoc (piece ++ puts) w.journal start ∙ append_assoc piece puts (w.journal ++ start))) q
+
+-- a file that was made empty before a run holds its text
+pub run_text : (file : List ℕ) (is : List Item) → text_in (run_journal (Some file) is ++ Start file ∷ []) file ≡ Some (text_of is)
+run_text file is =
+    let w = written_of (Some file) [] (onto is []) in
+    let before = w.journal ++ Start file ∷ [] in
+    let q = text_at file (onto is []) in
+    named file (unwrap_or (text_in before file) [] ++ w.pending) (text_in before file) ∙ ap (λ x. Some (unwrap_or x [] ++ w.pending)) q.is ∙ ap Some (q.all ∙ text_onto is [])
