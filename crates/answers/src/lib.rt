@@ -12,6 +12,8 @@ mod judging;
 mod lines;
 mod refusal;
 mod report;
+#[cfg(test)]
+mod tests;
 
 pub use answer::{Answer, Unbuilt, answer_of_run};
 pub use judging::{judge_object, judge_trace};

@@ -8,6 +8,8 @@
 mod ending;
 mod laws;
 mod request;
+#[cfg(test)]
+mod tests;
 mod top;
 
 pub use answers::Unbuilt;
