@@ -1,12 +1,12 @@
 //! A case: a command with its files, and what must come of it.
-ghost use Rattle.std.specs.Prelude.{◌≡◌, ◌↔◌, IsNone, None, Ok, string_bytes};
-ghost use Rattle.pisa_cases.specs.Expected.{Agrees};
+ghost use Rattle.std.specs.Prelude.{◌≡◌, ◌↔◌, All, IsNone, IsTrue, None, Ok, string_bytes};
+ghost use Rattle.pisa_cases.specs.Expected.{Agrees, IsSame};
 
 use crate::ending::ending_words;
 use crate::fault::LineFault;
 use sim_main::simulate;
-use ss_base::{Bytes, MemShelf, MemSink, Name};
-use std::alloc::Global;
+use ss_base::{Bytes, MemShelf, MemSink, Name, Shelf, Sink};
+use std::alloc::{AllocError, Global};
 use std::fmt;
 
 /// How a command must end: with this status, and these words for its ending.
@@ -154,24 +154,57 @@ fn stream_difference(
 }
 
 /// Whether a file is held as it must be.
-fn is_held(shelf: &MemShelf, held: &MemShelf, name: &str) -> bool {
-    shelf.bytes(name) == held.bytes(name)
+fn is_held(shelf: &MemShelf, held: &MemShelf, name: &str) -> bool
+    ensures { IsTrue result → IsSame (⟦<MemShelf as Shelf>⟧.files shelf.now) (⟦<MemShelf as Shelf>⟧.files held.now) name.now }
+{
+    match (shelf.bytes(name), held.bytes(name)) {
+        (Some(found), Some(wanted)) => found == wanted,
+        (None, None) => true,
+        (Some(_), None) | (None, Some(_)) => false,
+    }
 }
 
-/// The first file that isn't held as it must be.
+/// Whether all these files are held as they must be.
+fn are_held(shelf: &MemShelf, held: &MemShelf, names: &[String]) -> bool
+    ensures { IsTrue result → All (λ name. IsSame (⟦<MemShelf as Shelf>⟧.files shelf.now) (⟦<MemShelf as Shelf>⟧.files held.now) (string_bytes name)) names.now }
+{
+    for name in names {
+        if !is_held(shelf, held, name.as_str()) {
+            return false;
+        }
+    }
+    true
+}
+
+/// The name of the first file that isn't held as it must be.
+fn first_other(
+    alloc: Global,
+    shelf: &MemShelf,
+    held: &MemShelf,
+    names: &[String],
+) -> Result<String, AllocError> {
+    for name in names {
+        if !is_held(shelf, held, name.as_str()) {
+            return String::from_str(alloc, name.as_str());
+        }
+    }
+    Ok(String::new(alloc))
+}
+
+/// How the files that are held differ from those that must be.
 fn file_difference(
     alloc: Global,
     shelf: &MemShelf,
     held: &MemShelf,
     names: &[String],
-) -> Result<Option<Difference>, LineFault> {
-    for name in names {
-        if !is_held(shelf, held, name.as_str()) {
-            let name = String::from_str(alloc, name.as_str())?;
-            return Ok(Some(Difference::File { name }));
-        }
+) -> Result<Option<Difference>, LineFault>
+    ensures { result ≡ Ok None → All (λ name. IsSame (⟦<MemShelf as Shelf>⟧.files shelf.now) (⟦<MemShelf as Shelf>⟧.files held.now) (string_bytes name)) names.now }
+{
+    if are_held(shelf, held, names) {
+        return Ok(None);
     }
-    Ok(None)
+    let name = first_other(alloc, shelf, held, names)?;
+    Ok(Some(Difference::File { name }))
 }
 
 /// Performs a case, as far as it was read, and tells how what comes of it differs from what it expects.
@@ -223,10 +256,14 @@ fn judge(
     case: &Case,
     status: u8,
     words: String,
-) -> Result<Option<Difference>, LineFault> {
+) -> Result<Option<Difference>, LineFault>
+    ensures agrees { result ≡ Ok None → Agrees case.now.expected status (string_bytes words) (⟦<MemSink as Sink>⟧.contents case.now.prog) (⟦<MemSink as Sink>⟧.contents case.now.stat) }
+    ensures files { result ≡ Ok None → All (λ name. IsSame (⟦<MemShelf as Shelf>⟧.files case.now.shelf) (⟦<MemShelf as Shelf>⟧.files case.now.held) (string_bytes name)) case.now.names.items }
+{
     let (output, report) = (case.prog.bytes(), case.stat.bytes());
-    match judge_streams(&case.expected, status, words, output, report)? {
-        Some(found) => Ok(Some(found)),
-        None => file_difference(alloc, &case.shelf, &case.held, &case.names),
+    match judge_streams(&case.expected, status, words, output, report) {
+        Ok(Some(found)) => Ok(Some(found)),
+        Ok(None) => file_difference(alloc, &case.shelf, &case.held, &case.names),
+        Err(fault) => Err(fault),
     }
 }
