@@ -539,3 +539,88 @@ fn every_shape_answers_by_hand(rt: HostRuntime) -> Result<(), Fail> {
     assert!(rt; agree);
     Ok(())
 }
+
+/// Whether each configuration is judged so: whether its levels clash, and whether it is allowed.
+fn judged_so(rows: &[(HierConfig, bool, bool)]) -> bool {
+    for (config, clashes, allowed) in rows {
+        if config.clashes() != *clashes || config.is_allowed() != *allowed {
+            return false;
+        }
+    }
+    true
+}
+
+/// The defaults with other levels.
+fn with_levels(il1: Level, il2: Level, dl1: Level, dl2: Level) -> HierConfig {
+    HierConfig {
+        il1,
+        il2,
+        dl1,
+        dl2,
+        ..defaults()
+    }
+}
+
+#[test]
+fn configurations_are_judged(rt: HostRuntime) {
+    let small = Level::Own(shape(64, 16, 2, false));
+    let odd = Level::Own(shape(3, 32, 4, false));
+    let slow = HierConfig {
+        dl2lat: 101,
+        ..defaults()
+    };
+    let rows = [
+        (defaults(), false, true),
+        (
+            with_levels(Level::Shared, Level::Shared, DL1, DL2),
+            true,
+            false,
+        ),
+        (
+            with_levels(Level::Shared, Level::Off, DL1, DL2),
+            false,
+            true,
+        ),
+        (
+            with_levels(Level::Shared, Level::Off, Level::Off, Level::Off),
+            true,
+            false,
+        ),
+        (with_levels(Level::Off, IL2, DL1, DL2), true, false),
+        (
+            with_levels(IL1, Level::Shared, DL1, Level::Off),
+            true,
+            false,
+        ),
+        (with_levels(IL1, IL2, Level::Off, DL2), true, false),
+        (with_levels(IL2, small, DL1, DL2), true, false),
+        (with_levels(IL2, Level::Shared, DL1, small), true, false),
+        (with_levels(Level::Off, Level::Off, DL2, small), true, false),
+        (with_levels(IL1, IL2, odd, Level::Off), false, false),
+        (
+            with_levels(IL1, IL2, Level::Shared, Level::Off),
+            false,
+            false,
+        ),
+        (slow, false, false),
+    ];
+    let judged = judged_so(&rows);
+    assert!(rt; judged);
+}
+
+/// Whether a hierarchy of the defaults takes at most 39 cycles, and 1 where the first level hits.
+fn defaults_take_39(alloc: Global) -> Result<bool, OutOfMemory> {
+    let config = defaults();
+    if !config.is_allowed() {
+        return Ok(false);
+    }
+    let hier = Hier::new(alloc, &config)?;
+    Ok(hier.greatest_fetch() == 39 && hier.greatest_load() == 39 && hier.fetch_hit() == 1)
+}
+
+#[test]
+fn defaults_find_memory(rt: HostRuntime) -> Result<(), Fail> {
+    let found = defaults_take_39(rt.alloc())?;
+    assert!(rt; found);
+    Ok(())
+}
