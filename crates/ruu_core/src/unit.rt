@@ -119,7 +119,7 @@ impl Ruu {
         ring::least(&self.slots, Search::Access(cycle), after)
     }
 
-    /// The least row above `after` whose W or MW is the cycle. None exactly where there is none.
+    /// The least row above `after` that has its W or its MW at this cycle, if there is one.
     pub fn next_done(&self, cycle: u64, after: Option<u64>) -> Option<u64>
         requires { IsTrue (is_above self.now.past cycle) }
         ensures { result ≡ next (completes cycle) after self.now.rows }
