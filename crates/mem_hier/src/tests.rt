@@ -534,7 +534,7 @@ fn rows_agree(alloc: Global) -> Result<bool, OutOfMemory> {
 }
 
 #[test]
-fn every_shape_answers_by_hand(rt: HostRuntime) -> Result<(), Fail> {
+fn every_shape_answers_as_an_independent_model(rt: HostRuntime) -> Result<(), Fail> {
     let agree = rows_agree(rt.alloc())?;
     assert!(rt; agree);
     Ok(())
