@@ -38,7 +38,7 @@ fn command<F: Files, P: Sink, R: Sink>(
     prog: &mut P,
     stat: &mut R,
 ) -> Ending
-    ensures { Ends P.tells P.contents P.faults R.tells R.contents R.faults (request_of (map string_bytes words.now)) prog.old prog.new stat.old stat.new result }
+    ensures { Ends P.tells P.contents P.faults P.calm R.tells R.contents R.faults R.calm (request_of (map string_bytes words.now)) prog.old prog.new stat.old stat.new result }
 {
     let mut shelf = HostShelf::new(rt);
     simulate(alloc, words, &mut shelf, prog, stat)
@@ -55,7 +55,7 @@ pub fn perform<F: Files, P: Sink, R: Sink>(
     prog: &mut P,
     stat: &mut R,
 ) -> u8
-    ensures { MatchResult words (λ ws. IsStatusOf (Ends P.tells P.contents P.faults R.tells R.contents R.faults (request_of (map string_bytes ws.items)) prog.old prog.new stat.old stat.new) result) (λ e. (result ≡ status_of (ending_without_words (error_kind e))) × (prog.new ≡ prog.old) × (stat.new ≡ stat.old)) }
+    ensures { MatchResult words (λ ws. IsStatusOf (Ends P.tells P.contents P.faults P.calm R.tells R.contents R.faults R.calm (request_of (map string_bytes ws.items)) prog.old prog.new stat.old stat.new) result) (λ e. (result ≡ status_of (ending_without_words (error_kind e))) × (prog.new ≡ prog.old) × (stat.new ≡ stat.old)) }
 {
     match words {
         Ok(words) => command(alloc, rt, &words, prog, stat).status(),
