@@ -1,5 +1,5 @@
 -- What each part of an answer depends on.
-use Rattle.std.specs.Prelude.{◌≡◌, ℕ, Bool, false, List, [], ◌∷◌, ◌⊎◌, Option, Some, None, IsTrue}
+use Rattle.std.specs.Prelude.{◌≡◌, ℕ, false, List, [], ◌∷◌, ◌⊎◌, Option, Some, None, IsTrue}
 use Rattle.pisa_isa.specs.declared.instr.Instr.{Instr}
 use Rattle.pisa_isa.specs.declared.classes.ControlKind.{ControlKind}
 use Rattle.pisa_isa.specs.declared.classes.ControlKind.TheVariants as control

@@ -1,5 +1,5 @@
 -- The configurations that a predictor may have.
-use Rattle.std.specs.Prelude.{ℕ, ◌≤◌}
+use Rattle.std.specs.Prelude.{◌≤◌}
 use Rattle.bpred_unit.specs.declared.config.PredConfig.{PredConfig}
 
 -- no table is empty, histories have up to 16 outcomes, sets up to 16 entries, and the stack up to 1,024 cells
