@@ -1,5 +1,5 @@
 -- Latencies of all histories.
-use Rattle.std.proofs.Common.{◌≡◌, ℕ, ◌+◌, ◌≤◌, Bool, true, false, cond, List, [], ◌∷◌, map, Option, Some, None, refl, sym, ◌∙◌, ap, subst, arith}
+use Rattle.std.proofs.Common.{◌≡◌, ℕ, ◌+◌, ◌-◌, ◌≤◌, Bool, true, false, cond, List, [], ◌∷◌, map, Option, Some, None, refl, sym, ◌∙◌, ap, subst, arith}
 use Rattle.std.specs.Prelude.{if◌then◌else◌, max}
 use Rattle.cache_core.specs.declared.config.CacheConfig.{CacheConfig}
 use Rattle.cache_core.specs.declared.answers.Touch.{Touch}
@@ -10,8 +10,8 @@ use Rattle.mem_hier.specs.declared.config.Which.TheVariants.{Il1, Dl1, Il2, Dl2,
 use Rattle.mem_hier.specs.Limits.{is_shared, own, behind_il1, IsAllowed}
 use Rattle.mem_hier.specs.Replay.{Reference, Fetch, Load, Store, SettleAll, Timing, Calls, Answer, hit_latency, last_timing, first_timing, il1_timing, dl1_timing, dl2_timing, tlb_timing, behind_il1_lookup, behind_il1_timing, last_access, written_back, first_access, through, translated, data_way, fetch_way, data_answer, fetch_answer, calls_of, latency_of, greatest_fetch_of, fetch_hit_of}
 use Rattle.mem_hier.specs.Stands.{references_in, last_cycle_in, CyclesRise}
-use Rattle.mem_hier.specs.Laws.{HasBounds, FirstMisses, WaitIsBounded, IsBare, TakesLookups}
-use Rattle.mem_hier.proofs.Fills.{hit_bounds, last_missed}
+use Rattle.mem_hier.specs.Laws.{HasBounds, FirstMisses, WaitIsBounded, HitsTakeLookups, IsBare, TakesLookups}
+use Rattle.mem_hier.proofs.Fills.{hit_bounds, fills_settle, last_missed}
 use Rattle.mem_hier.proofs.Steps.{first_missed}
 use Rattle.mem_hier.proofs.Ways.{fetch_cases}
 use Rattle.mem_hier.proofs.Bounds.{LevelFills, fetch_timing, last_timed, first_timed, tlb_timed, first_lookup, fetch_answer_fills, data_answer_fills, calls_fill_by}
@@ -72,6 +72,26 @@ waits_bounded c h Il2 addr cycle allowed rise le = waits (last_timing c c.il2lat
 waits_bounded c h Dl2 addr cycle allowed rise le = waits (dl2_timing c) (own c.dl2) (calls_of c h).dl2 addr cycle (last_timed c c.dl2lat (own c.dl2)) (calls_fill_by c h cycle allowed rise le).dl2
 waits_bounded c h Itlb addr cycle allowed rise le = waits (tlb_timing c c.itlb) c.itlb (calls_of c h).itlb addr cycle (tlb_timed c c.itlb allowed.memory.tlb.least) (calls_fill_by c h cycle allowed rise le).itlb
 waits_bounded c h Dtlb addr cycle allowed rise le = waits (tlb_timing c c.dtlb) c.dtlb (calls_of c h).dtlb addr cycle (tlb_timed c c.dtlb allowed.memory.tlb.least) (calls_fill_by c h cycle allowed rise le).dtlb
+
+-- hits after a settling
+settled_hit : (t : Timing) (shape : CacheConfig) (calls : List Call) (addr cycle : ℕ) → 1 ≤ shape.ways → hit_latency t (fill_end_of shape (Settle ∷ calls) (block_of shape addr)) cycle ≡ t.lookup
+settled_hit t shape calls addr cycle some = by_case t.wait
+  where
+    none : fill_end_of shape (Settle ∷ calls) (block_of shape addr) ≤ 0
+    none = fills_settle shape calls 0 some (block_of shape addr)
+
+    by_case : (w : Bool) → cond w (max t.lookup (fill_end_of shape (Settle ∷ calls) (block_of shape addr) - cycle)) t.lookup ≡ t.lookup
+    by_case true = omega (arith, none)
+    by_case false = refl
+
+pub settled_lookups : (c : HierConfig) (h : List Reference) (which : Which) (addr cycle : ℕ) → IsAllowed c → HitsTakeLookups c h which addr cycle
+unfolding calls_of
+settled_lookups c h Il1 addr cycle allowed shape is = settled_hit (il1_timing c) shape (calls_of c h).il1 addr cycle (allowed.shapes.il1.fits shape is).least_ways
+settled_lookups c h Dl1 addr cycle allowed shape is = settled_hit (dl1_timing c) shape (calls_of c h).dl1 addr cycle (allowed.shapes.dl1.fits shape is).least_ways
+settled_lookups c h Il2 addr cycle allowed shape is = settled_hit (last_timing c c.il2lat (own c.il2)) shape (calls_of c h).il2 addr cycle (allowed.shapes.il2.fits shape is).least_ways
+settled_lookups c h Dl2 addr cycle allowed shape is = settled_hit (dl2_timing c) shape (calls_of c h).dl2 addr cycle (allowed.shapes.dl2.fits shape is).least_ways
+settled_lookups c h Itlb addr cycle allowed shape is = settled_hit (tlb_timing c c.itlb) shape (calls_of c h).itlb addr cycle (allowed.shapes.itlb.fits shape is).least_ways
+settled_lookups c h Dtlb addr cycle allowed shape is = settled_hit (tlb_timing c c.dtlb) shape (calls_of c h).dtlb addr cycle (allowed.shapes.dtlb.fits shape is).least_ways
 
 -- first references
 pub record IsIdle (calls : List Call) : Type 0 where

@@ -53,6 +53,7 @@ stood v t r cycle n new of sound le answers c h =
           latency = answered.latency;
           stands = record {
             config = refl;
+            allowed = sound.allowed;
             caches = answered.caches;
             references = ap (λ k. k + 1) st.references ∙ sym (of.references h);
             last_cycle = sym (of.last_cycle h);
@@ -64,7 +65,7 @@ pub stood_settled : (v : Held) (new : Caches) → ((c : HierConfig) (s : Calls) 
     → StandsFor (record { config = v.config; caches = new; references = v.references; last_cycle = 0 }) c (SettleAll ∷ h)
 unfolding calls_of
 stood_settled v new settles c h st =
-    record { config = st.config; caches = settles c (calls_of c h) st.caches; references = st.references; last_cycle = refl; rise = st.rise }
+    record { config = st.config; allowed = st.allowed; caches = settles c (calls_of c h) st.caches; references = st.references; last_cycle = refl; rise = st.rise }
 
 -- what every hierarchy has
 caches_by_more : (v : Caches) (n m : ℕ) → n ≤ m → CachesBy v n → CachesBy v m

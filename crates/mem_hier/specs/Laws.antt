@@ -43,6 +43,12 @@ WaitIsBounded c h which addr cycle =
     (shape : CacheConfig) → shape_of c which ≡ Some shape
     → hit_latency (timing_at c which) (fill_end_of shape (calls_at (calls_of c h) which) (block_of shape addr)) cycle ≤ (timing_at c which).greatest
 
+-- right after a settling a hit takes the lookup latency of its level
+abbrev pub HitsTakeLookups : HierConfig → List Reference → Which → ℕ → ℕ → Type 0
+HitsTakeLookups c h which addr cycle =
+    (shape : CacheConfig) → shape_of c which ≡ Some shape
+    → hit_latency (timing_at c which) (fill_end_of shape (calls_at (calls_of c (SettleAll ∷ h)) which) (block_of shape addr)) cycle ≡ (timing_at c which).lookup
+
 -- Where nothing is held at all, a latency is a lookup latency.
 pub record IsBare (c : HierConfig) : Type 0 where
   pub il1 : c.il1 ≡ Off

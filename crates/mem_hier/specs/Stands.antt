@@ -4,7 +4,7 @@ use Rattle.cache_core.specs.declared.config.CacheConfig.{CacheConfig}
 use Rattle.cache_core.specs.Replay.{Call}
 use Rattle.cache_core.specs.Stands as cache
 use Rattle.mem_hier.specs.declared.config.HierConfig.{HierConfig}
-use Rattle.mem_hier.specs.Limits.{own}
+use Rattle.mem_hier.specs.Limits.{own, IsAllowed}
 use Rattle.mem_hier.specs.Replay.{Reference, Fetch, Load, Store, SettleAll, Calls, calls_of}
 
 -- the caches and TLBs, each where there is one of its own
@@ -64,9 +64,11 @@ CyclesRise (Load addr cycle ∷ h) = (last_cycle_in h ≤ cycle) × CyclesRise h
 CyclesRise (Store addr cycle ∷ h) = (last_cycle_in h ≤ cycle) × CyclesRise h
 CyclesRise (SettleAll ∷ h) = CyclesRise h
 
--- The hierarchy stands for these references, the newest first: its caches and TLBs got the calls of their replay.
+-- The hierarchy, whose configuration is allowed, stands for these references, the newest first: its caches and TLBs got
+-- the calls of their replay.
 pub record StandsFor (v : Held) (c : HierConfig) (h : List Reference) : Type 0 where
   pub config : v.config ≡ c
+  pub allowed : IsAllowed c
   pub caches : CachesStand v.caches c (calls_of c h)
   pub references : v.references ≡ references_in h
   pub last_cycle : v.last_cycle ≡ last_cycle_in h

@@ -5,7 +5,7 @@ ghost use Rattle.mem_hier.specs.declared.config.Which.{Which};
 ghost use Rattle.mem_hier.specs.Limits.{IsAllowed};
 ghost use Rattle.mem_hier.specs.Replay.{Reference, calls_of};
 ghost use Rattle.mem_hier.specs.Stands.{references_in, last_cycle_in, CyclesRise};
-ghost use Rattle.mem_hier.specs.Laws.{HasBounds, FirstMisses, WaitIsBounded, IsBare, TakesLookups, WorkedLatencies, CountsAsked, IsBalanced};
+ghost use Rattle.mem_hier.specs.Laws.{HasBounds, FirstMisses, WaitIsBounded, HitsTakeLookups, IsBare, TakesLookups, WorkedLatencies, CountsAsked, IsBalanced};
 
 /// Every latency is at least 1 and at most the greatest of its kind, and a fetch takes no less than where its first level
 /// hits.
@@ -21,6 +21,11 @@ pub fn first_references_miss()
 /// Where hits wait, one takes no longer than the greatest latency of its level.
 pub fn waiting_hits_are_bounded()
     ensures { (c : HierConfig) (h : List Reference) (which : Which) (addr cycle : ℕ) → IsAllowed c → CyclesRise h → last_cycle_in h ≤ cycle → WaitIsBounded c h which addr cycle }
+{}
+
+/// Right after a settling, every hit of a cache or TLB takes its lookup latency.
+pub fn settled_hits_take_lookups()
+    ensures { (c : HierConfig) (h : List Reference) (which : Which) (addr cycle : ℕ) → IsAllowed c → HitsTakeLookups c h which addr cycle }
 {}
 
 /// With every first level and TLB none, each latency is the lookup latency.

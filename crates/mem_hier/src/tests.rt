@@ -38,7 +38,74 @@ const REQUESTS: [Request; 18] = [
     Request::Fetch(0x10c, 51),
 ];
 
-/// A shape of the hierarchy, what each request takes without and with waiting (0 where nothing is told), and the hits,
+/// A dirty block that leaves the first level after it left the second one, where its write misses then, and a read of it
+/// while that write still fills its block; then settlings alone.
+const WRITTEN_AGAIN: [Request; 18] = [
+    Request::Store(0, 0),
+    Request::Load(64, 100),
+    Request::Load(0, 101),
+    Request::Load(128, 200),
+    Request::Load(0, 201),
+    Request::Load(192, 300),
+    Request::Load(256, 400),
+    Request::Load(4, 401),
+    Request::Settle,
+    Request::Settle,
+    Request::Settle,
+    Request::Settle,
+    Request::Settle,
+    Request::Settle,
+    Request::Settle,
+    Request::Settle,
+    Request::Settle,
+    Request::Settle,
+];
+
+/// Blocks in flight on both sides that a settling makes present, while cycles begin anew; then settlings alone.
+const SETTLED: [Request; 18] = [
+    Request::Fetch(0, 5),
+    Request::Load(0, 5),
+    Request::Settle,
+    Request::Fetch(0, 0),
+    Request::Load(0, 0),
+    Request::Fetch(16, 0),
+    Request::Load(16, 0),
+    Request::Settle,
+    Request::Settle,
+    Request::Settle,
+    Request::Settle,
+    Request::Settle,
+    Request::Settle,
+    Request::Settle,
+    Request::Settle,
+    Request::Settle,
+    Request::Settle,
+    Request::Settle,
+];
+
+/// A page in flight that a settling makes present; then settlings alone.
+const SETTLED_PAGE: [Request; 18] = [
+    Request::Fetch(0, 5),
+    Request::Settle,
+    Request::Fetch(0, 0),
+    Request::Settle,
+    Request::Settle,
+    Request::Settle,
+    Request::Settle,
+    Request::Settle,
+    Request::Settle,
+    Request::Settle,
+    Request::Settle,
+    Request::Settle,
+    Request::Settle,
+    Request::Settle,
+    Request::Settle,
+    Request::Settle,
+    Request::Settle,
+    Request::Settle,
+];
+
+/// A shape of the hierarchy, its requests, what each request takes without and with waiting (0 where nothing is told), and the hits,
 /// misses, replacements and write-backs of each cache and TLB, in the order of `ALL`.
 struct Row {
     il1: Level,
@@ -47,6 +114,7 @@ struct Row {
     dl2: Level,
     itlb: Option<CacheConfig>,
     dtlb: Option<CacheConfig>,
+    requests: [Request; 18],
     latencies: [[u32; 18]; 2],
     counts: [Option<(u64, u64, u64, u64)>; 6],
 }
@@ -97,6 +165,14 @@ const DL2: Level = Level::Own(CacheConfig {
     fifo: true,
 });
 
+/// The second level of the data side with one set, by least recently used.
+const DL2_OF_ONE_SET: Level = Level::Own(CacheConfig {
+    sets: 1,
+    block: 32,
+    ways: 2,
+    fifo: false,
+});
+
 const ITLB: Option<CacheConfig> = Some(CacheConfig {
     sets: 1,
     block: 128,
@@ -111,7 +187,7 @@ const DTLB: Option<CacheConfig> = Some(CacheConfig {
     fifo: true,
 });
 
-const ROWS: [Row; 12] = [
+const ROWS: [Row; 15] = [
     Row {
         il1: Level::Off,
         il2: Level::Off,
@@ -119,6 +195,7 @@ const ROWS: [Row; 12] = [
         dl2: Level::Off,
         itlb: ITLB,
         dtlb: DTLB,
+        requests: REQUESTS,
         latencies: [
             [11, 11, 2, 3, 0, 2, 11, 0, 11, 11, 0, 3, 11, 0, 3, 11, 11, 2],
             [
@@ -141,6 +218,7 @@ const ROWS: [Row; 12] = [
         dl2: Level::Off,
         itlb: None,
         dtlb: DTLB,
+        requests: REQUESTS,
         latencies: [
             [2, 26, 2, 3, 0, 2, 26, 0, 2, 26, 0, 26, 2, 0, 3, 2, 26, 2],
             [2, 26, 2, 23, 0, 2, 26, 0, 2, 26, 0, 26, 2, 0, 20, 2, 26, 2],
@@ -161,6 +239,7 @@ const ROWS: [Row; 12] = [
         dl2: DL2,
         itlb: ITLB,
         dtlb: None,
+        requests: REQUESTS,
         latencies: [
             [
                 11, 39, 2, 3, 0, 2, 39, 0, 11, 10, 0, 39, 11, 0, 3, 11, 39, 2,
@@ -185,6 +264,7 @@ const ROWS: [Row; 12] = [
         dl2: Level::Off,
         itlb: None,
         dtlb: None,
+        requests: REQUESTS,
         latencies: [
             [25, 3, 2, 3, 0, 25, 3, 0, 25, 3, 0, 3, 25, 0, 3, 25, 3, 25],
             [25, 3, 24, 3, 0, 25, 3, 0, 25, 3, 0, 3, 25, 0, 3, 25, 3, 25],
@@ -198,6 +278,7 @@ const ROWS: [Row; 12] = [
         dl2: Level::Off,
         itlb: ITLB,
         dtlb: DTLB,
+        requests: REQUESTS,
         latencies: [
             [
                 25, 26, 2, 3, 0, 25, 26, 0, 25, 26, 0, 26, 25, 0, 3, 25, 26, 25,
@@ -222,6 +303,7 @@ const ROWS: [Row; 12] = [
         dl2: DL2,
         itlb: None,
         dtlb: DTLB,
+        requests: REQUESTS,
         latencies: [
             [
                 25, 39, 2, 3, 0, 25, 39, 0, 25, 11, 0, 39, 25, 0, 3, 25, 39, 25,
@@ -246,6 +328,7 @@ const ROWS: [Row; 12] = [
         dl2: Level::Off,
         itlb: ITLB,
         dtlb: None,
+        requests: REQUESTS,
         latencies: [
             [36, 3, 2, 3, 0, 36, 3, 0, 36, 3, 0, 3, 36, 0, 3, 36, 3, 7],
             [36, 3, 35, 3, 0, 36, 3, 0, 36, 3, 0, 3, 36, 0, 3, 36, 3, 35],
@@ -266,6 +349,7 @@ const ROWS: [Row; 12] = [
         dl2: Level::Off,
         itlb: None,
         dtlb: None,
+        requests: REQUESTS,
         latencies: [
             [
                 36, 26, 2, 3, 0, 36, 26, 0, 36, 26, 0, 26, 36, 0, 3, 36, 26, 7,
@@ -290,6 +374,7 @@ const ROWS: [Row; 12] = [
         dl2: DL2,
         itlb: ITLB,
         dtlb: DTLB,
+        requests: REQUESTS,
         latencies: [
             [
                 36, 39, 2, 3, 0, 36, 39, 0, 36, 11, 0, 39, 36, 0, 3, 36, 39, 7,
@@ -314,6 +399,7 @@ const ROWS: [Row; 12] = [
         dl2: DL2,
         itlb: None,
         dtlb: DTLB,
+        requests: REQUESTS,
         latencies: [
             [38, 11, 2, 3, 0, 9, 39, 0, 9, 11, 0, 39, 38, 0, 3, 38, 39, 9],
             [
@@ -336,6 +422,7 @@ const ROWS: [Row; 12] = [
         dl2: Level::Off,
         itlb: ITLB,
         dtlb: None,
+        requests: REQUESTS,
         latencies: [
             [
                 26, 3, 3, 3, 0, 3, 26, 0, 11, 26, 0, 26, 26, 0, 3, 26, 26, 26,
@@ -360,6 +447,7 @@ const ROWS: [Row; 12] = [
         dl2: DL2,
         itlb: None,
         dtlb: None,
+        requests: REQUESTS,
         latencies: [
             [39, 3, 3, 3, 0, 3, 39, 0, 3, 10, 0, 39, 39, 0, 3, 39, 39, 10],
             [
@@ -374,6 +462,62 @@ const ROWS: [Row; 12] = [
             None,
             None,
         ],
+    },
+    Row {
+        il1: Level::Off,
+        il2: Level::Off,
+        dl1: DL1,
+        dl2: DL2_OF_ONE_SET,
+        itlb: None,
+        dtlb: None,
+        requests: WRITTEN_AGAIN,
+        latencies: [
+            [0, 39, 3, 39, 3, 39, 39, 10, 0, 0, 0, 0, 0, 0, 0, 0, 0, 0],
+            [0, 39, 3, 39, 3, 39, 39, 38, 0, 0, 0, 0, 0, 0, 0, 0, 0, 0],
+        ],
+        counts: [
+            None,
+            Some((2, 6, 4, 1)),
+            None,
+            Some((1, 6, 4, 0)),
+            None,
+            None,
+        ],
+    },
+    Row {
+        il1: IL1,
+        il2: IL2,
+        dl1: DL1,
+        dl2: DL2,
+        itlb: None,
+        dtlb: None,
+        requests: SETTLED,
+        latencies: [
+            [36, 39, 0, 2, 3, 7, 10, 0, 0, 0, 0, 0, 0, 0, 0, 0, 0, 0],
+            [36, 39, 0, 2, 3, 7, 10, 0, 0, 0, 0, 0, 0, 0, 0, 0, 0, 0],
+        ],
+        counts: [
+            Some((1, 2, 0, 0)),
+            Some((1, 2, 0, 0)),
+            Some((1, 1, 0, 0)),
+            Some((1, 1, 0, 0)),
+            None,
+            None,
+        ],
+    },
+    Row {
+        il1: Level::Off,
+        il2: Level::Off,
+        dl1: Level::Off,
+        dl2: Level::Off,
+        itlb: ITLB,
+        dtlb: None,
+        requests: SETTLED_PAGE,
+        latencies: [
+            [11, 0, 2, 0, 0, 0, 0, 0, 0, 0, 0, 0, 0, 0, 0, 0, 0, 0],
+            [11, 0, 2, 0, 0, 0, 0, 0, 0, 0, 0, 0, 0, 0, 0, 0, 0, 0],
+        ],
+        counts: [None, None, None, None, Some((1, 1, 0, 0)), None],
     },
 ];
 
@@ -514,7 +658,7 @@ fn rows_agree(alloc: Global) -> Result<bool, OutOfMemory> {
         if !agrees(
             alloc,
             &config(row, false),
-            &REQUESTS,
+            &row.requests,
             &row.latencies[0],
             &row.counts,
         )? {
@@ -523,7 +667,7 @@ fn rows_agree(alloc: Global) -> Result<bool, OutOfMemory> {
         if !agrees(
             alloc,
             &config(row, true),
-            &REQUESTS,
+            &row.requests,
             &row.latencies[1],
             &row.counts,
         )? {
