@@ -14,8 +14,8 @@ use Rattle.event_trace.specs.declared.trace.Trace.{Trace}
 use Rattle.event_trace.specs.Grammar.{absent_trace}
 use Rattle.event_trace.specs.Reading.{checked}
 use Rattle.event_trace.specs.World.{File}
-use Rattle.pisa_asm.specs.declared.fault.AsmFault.{AsmFault}
-use Rattle.pisa_asm.specs.declared.fault.AsmFault.TheVariants as text_fault
+use Rattle.ss_base.specs.declared.text_fault.AsmFault.{AsmFault}
+use Rattle.ss_base.specs.declared.text_fault.AsmFault.TheVariants as text_fault
 use Rattle.journal.specs.declared.fault.Fault.{Fault}
 use Rattle.journal.specs.declared.fault.Fault.TheVariants as fault
 use Rattle.journal.specs.declared.loading.Found.{Found}

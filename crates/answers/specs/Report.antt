@@ -4,8 +4,8 @@ use Rattle.ecoff_load.specs.declared.fault.ObjectWhy.{ObjectWhy}
 use Rattle.ecoff_load.specs.declared.fault.ObjectWhy.TheVariants as object
 use Rattle.event_trace.specs.declared.fault.TraceWhy.{TraceWhy}
 use Rattle.event_trace.specs.declared.fault.TraceWhy.TheVariants as trace
-use Rattle.pisa_asm.specs.declared.fault.TextWhy.{TextWhy}
-use Rattle.pisa_asm.specs.declared.fault.TextWhy.TheVariants as text
+use Rattle.ss_base.specs.declared.text_fault.TextWhy.{TextWhy}
+use Rattle.ss_base.specs.declared.text_fault.TextWhy.TheVariants as text
 use Rattle.sim_safe.specs.declared.observer.RunEnd.{RunEnd}
 use Rattle.sim_safe.specs.declared.statistics.Statistics.{Statistics}
 use Rattle.sim_safe.specs.Statistics.{counts_text}

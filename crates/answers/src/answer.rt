@@ -4,10 +4,9 @@ ghost use Rattle.answers.specs.Answer.{stop_answer, run_answer};
 
 use ecoff_load::ObjectWhy;
 use event_trace::TraceWhy;
-use pisa_asm::TextWhy;
 use pisa_step::Cause;
 use sim_safe::RunEnd;
-use ss_base::Name;
+use ss_base::{Name, TextWhy};
 
 /// What is not built yet.
 #[derive(Clone, Copy, Debug, PartialEq, Eq)]

@@ -5,8 +5,7 @@ ghost use Rattle.answers.specs.Report.{object_why_text, trace_why_text, text_why
 use crate::answer::Answer;
 use ecoff_load::ObjectWhy;
 use event_trace::TraceWhy;
-use pisa_asm::TextWhy;
-use ss_base::{OutOfMemory, push_decimal};
+use ss_base::{OutOfMemory, TextWhy, push_decimal};
 
 /// The name of a reason for which an object is refused.
 fn object_why_name(why: ObjectWhy) -> &'static str

@@ -11,8 +11,7 @@ use crate::report::put_answer;
 use ecoff_load::ObjectFault;
 use event_trace::TraceFault;
 use journal::{Fault, Outside};
-use pisa_asm::AsmFault;
-use ss_base::{Name, OutOfMemory};
+use ss_base::{AsmFault, Name, OutOfMemory};
 use std::alloc::Global;
 
 /// Why a command does not go on with its files.

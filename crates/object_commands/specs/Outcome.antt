@@ -3,9 +3,9 @@ use Rattle.std.specs.Prelude.{◌≡◌, ◌⊎◌, ℕ, List, [], ◌∷◌, Re
 use Rattle.ecoff_load.specs.declared.image.Image.{Image}
 use Rattle.ecoff_load.specs.declared.image.Text.{Text}
 use Rattle.ecoff_load.specs.Layout.{object_bytes}
-use Rattle.pisa_asm.specs.declared.fault.AsmFault.{AsmFault}
-use Rattle.pisa_asm.specs.declared.fault.AsmFault.TheVariants as fault
-use Rattle.pisa_asm.specs.declared.fault.TextWhy.TheVariants as why
+use Rattle.ss_base.specs.declared.text_fault.AsmFault.{AsmFault}
+use Rattle.ss_base.specs.declared.text_fault.AsmFault.TheVariants as fault
+use Rattle.ss_base.specs.declared.text_fault.TextWhy.TheVariants as why
 use Rattle.pisa_asm.specs.Passes.{described, CanBeHeld}
 use Rattle.journal.specs.declared.loading.Found.{Found}
 use Rattle.journal.specs.Write.{Start, Append}

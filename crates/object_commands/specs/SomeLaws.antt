@@ -10,10 +10,10 @@ use Rattle.ecoff_load.specs.declared.image.Part.{Part}
 use Rattle.ecoff_load.specs.declared.image.Text.{Text}
 use Rattle.ecoff_load.specs.Object.{IsImage, IsText, IsPart, IsApart, brought}
 use Rattle.ecoff_load.specs.Layout.{object_length}
-use Rattle.pisa_asm.specs.declared.fault.AsmFault.{AsmFault}
-use Rattle.pisa_asm.specs.declared.fault.AsmFault.TheVariants as fault
-use Rattle.pisa_asm.specs.declared.fault.TextWhy.{TextWhy}
-use Rattle.pisa_asm.specs.declared.fault.TextWhy.TheVariants as why
+use Rattle.ss_base.specs.declared.text_fault.AsmFault.{AsmFault}
+use Rattle.ss_base.specs.declared.text_fault.AsmFault.TheVariants as fault
+use Rattle.ss_base.specs.declared.text_fault.TextWhy.{TextWhy}
+use Rattle.ss_base.specs.declared.text_fault.TextWhy.TheVariants as why
 use Rattle.pisa_asm.specs.Passes.{Found as Findings, CanBeHeld, after_line, are_short, at_line, described, filled, first_pass, image_with, next, no_sheet, nothing_found, parts_in, second_pass, text_in, words_on}
 use Rattle.pisa_asm.specs.Letters.{lines_of}
 use Rattle.pisa_asm.specs.Sheets.{pieces_of}

@@ -13,8 +13,8 @@ use Rattle.pisa_isa.specs.Coding.{AtMost, IsWellFormed}
 use Rattle.pisa_isa.specs.Fields.{fields_of, highest_rt}
 use Rattle.pisa_isa.specs.CodingLaws.{Bounds, bounds}
 use Rattle.pisa_isa.specs.Texts.{name_of}
-use Rattle.pisa_asm.specs.declared.fault.TextWhy.{TextWhy}
-use Rattle.pisa_asm.specs.declared.fault.TextWhy.TheVariants as why
+use Rattle.ss_base.specs.declared.text_fault.TextWhy.{TextWhy}
+use Rattle.ss_base.specs.declared.text_fault.TextWhy.TheVariants as why
 use Rattle.pisa_asm.specs.declared.letters.Quoting.TheVariants.{Outside, Inside}
 use Rattle.pisa_asm.specs.declared.slots.Slot.{Slot}
 use Rattle.pisa_asm.specs.declared.slots.Slot.TheVariants as slot

@@ -5,7 +5,7 @@ use Rattle.std.proofs.lemmas.Bool.Decides.{nat_tests}
 use Rattle.std.proofs.lemmas.Str.Parse.{IsNumeralModel, numerals_by_fold}
 use Rattle.std.proofs.lemmas.Fmt.{digits_decimal, digits_value-decimal, decimal_digit, decimal_nonempty, first_decimal}
 use Rattle.ss_base.specs.Text.{hex8, hex_digit}
-use Rattle.pisa_asm.specs.declared.fault.TextWhy.TheVariants as why
+use Rattle.ss_base.specs.declared.text_fault.TextWhy.TheVariants as why
 use Rattle.pisa_asm.specs.declared.tokens.Number.{Number}
 use Rattle.pisa_asm.specs.Tokens.{decimal_on, hex_digit_value, hex_on, is_decimal, is_digit, is_hex_digit, limited, limited_in, number_in, number_of, register_in}
 use Rattle.pisa_asm.specs.Printed.{register_text, target_text}

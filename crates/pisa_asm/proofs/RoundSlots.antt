@@ -6,8 +6,8 @@ use Rattle.pisa_isa.specs.Fields.{highest_rt, last_rt, takes_pair}
 use Rattle.pisa_isa.specs.Table.{row_of}
 use Rattle.pisa_isa.specs.Targets.{branch_target, jump_target}
 use Rattle.pisa_isa.specs.CodingLaws.{Bounds}
-use Rattle.pisa_asm.specs.declared.fault.TextWhy.{TextWhy}
-use Rattle.pisa_asm.specs.declared.fault.TextWhy.TheVariants as why
+use Rattle.ss_base.specs.declared.text_fault.TextWhy.{TextWhy}
+use Rattle.ss_base.specs.declared.text_fault.TextWhy.TheVariants as why
 use Rattle.std.proofs.lemmas.Fmt.{decimal_nonempty}
 use Rattle.pisa_asm.specs.declared.tokens.Number.{Number}
 use Rattle.pisa_asm.specs.declared.slots.Slot.{Slot}

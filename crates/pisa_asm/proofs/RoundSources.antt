@@ -8,9 +8,9 @@ use Rattle.pisa_isa.specs.Classes.{is_float_op, operands_of}
 use Rattle.pisa_isa.specs.Coding.{IsWellFormed, decoded, number_of, second_word}
 use Rattle.pisa_isa.specs.CodingLaws.{bounds, codes_decoded, word_codes}
 use Rattle.pisa_isa.specs.Texts.{name_of}
-use Rattle.pisa_asm.specs.declared.fault.TextWhy.{TextWhy}
-use Rattle.pisa_asm.specs.declared.fault.TextWhy.TheVariants as why
-use Rattle.pisa_asm.specs.declared.fault.AsmFault.{AsmFault}
+use Rattle.ss_base.specs.declared.text_fault.TextWhy.{TextWhy}
+use Rattle.ss_base.specs.declared.text_fault.TextWhy.TheVariants as why
+use Rattle.ss_base.specs.declared.text_fault.AsmFault.{AsmFault}
 use Rattle.pisa_asm.specs.declared.tokens.Number.{Number}
 use Rattle.pisa_asm.specs.declared.slots.Slot.TheVariants as slot
 use Rattle.pisa_asm.specs.declared.statements.Section.TheVariants as section

@@ -1,6 +1,6 @@
 -- Reading a string byte by byte.
 use Rattle.std.proofs.Common.{◌≡◌, ◌++◌, ℕ, List, [], ◌∷◌, Result, Ok, Err, refl, append_assoc}
-use Rattle.pisa_asm.specs.declared.fault.TextWhy.{TextWhy}
+use Rattle.ss_base.specs.declared.text_fault.TextWhy.{TextWhy}
 use Rattle.pisa_asm.specs.Statements.{onto}
 
 -- bytes that were read before, and those that follow

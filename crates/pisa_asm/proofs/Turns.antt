@@ -1,7 +1,7 @@
 -- Passes over lines, one line after the other.
 use Rattle.std.proofs.Common.{◌≡◌, ◌+◌, ◌≤◌, ◌<◌, ◌∙◌, ℕ, Bool, List, [], ◌∷◌, length, Option, Some, None, Result, Ok, Err, is_some, option_map, Bor, refl, sym, ap, arith}
-use Rattle.pisa_asm.specs.declared.fault.TextWhy.{TextWhy}
-use Rattle.pisa_asm.specs.declared.fault.AsmFault.{AsmFault}
+use Rattle.ss_base.specs.declared.text_fault.TextWhy.{TextWhy}
+use Rattle.ss_base.specs.declared.text_fault.AsmFault.{AsmFault}
 use Rattle.pisa_asm.specs.declared.statements.Stop.{Stop}
 use Rattle.pisa_asm.specs.declared.statements.Stop.TheVariants as stops
 use Rattle.pisa_asm.specs.declared.assembling.Findings.{Findings}

@@ -1,8 +1,8 @@
 -- How what the code keeps stands for what the definitions speak of.
 use Rattle.std.specs.Prelude.{◌≡◌, ℕ, List, Result, Ok, Err, option_map, is_some}
-use Rattle.pisa_asm.specs.declared.fault.TextWhy.{TextWhy}
-use Rattle.pisa_asm.specs.declared.fault.AsmFault.{AsmFault}
-use Rattle.pisa_asm.specs.declared.fault.AsmFault.TheVariants as faults
+use Rattle.ss_base.specs.declared.text_fault.TextWhy.{TextWhy}
+use Rattle.ss_base.specs.declared.text_fault.AsmFault.{AsmFault}
+use Rattle.ss_base.specs.declared.text_fault.AsmFault.TheVariants as faults
 use Rattle.pisa_asm.specs.declared.statements.Stop.{Stop}
 use Rattle.pisa_asm.specs.declared.statements.Stop.TheVariants as stops
 use Rattle.pisa_asm.specs.declared.assembling.Findings.{Findings}

@@ -5,8 +5,8 @@ use Rattle.pisa_isa.specs.declared.instr.Instr.{Instr}
 use Rattle.pisa_isa.specs.declared.table.Operands.{Operands}
 use Rattle.pisa_isa.specs.declared.table.Operands.TheVariants as form
 use Rattle.pisa_isa.specs.Fields.{highest_rt}
-use Rattle.pisa_asm.specs.declared.fault.TextWhy.{TextWhy}
-use Rattle.pisa_asm.specs.declared.fault.TextWhy.TheVariants as why
+use Rattle.ss_base.specs.declared.text_fault.TextWhy.{TextWhy}
+use Rattle.ss_base.specs.declared.text_fault.TextWhy.TheVariants as why
 use Rattle.pisa_asm.specs.declared.tokens.Number.{Number}
 use Rattle.pisa_asm.specs.declared.slots.Slot.{Slot}
 use Rattle.pisa_asm.specs.declared.slots.Slot.TheVariants as slot

@@ -11,10 +11,10 @@ use Rattle.ecoff_load.specs.Layout.{object_length}
 use Rattle.pisa_isa.specs.declared.table.Operands.{Operands}
 use Rattle.pisa_isa.specs.declared.table.Operands.TheVariants as form
 use Rattle.pisa_isa.specs.Classes.{operands_of}
-use Rattle.pisa_asm.specs.declared.fault.TextWhy.{TextWhy}
-use Rattle.pisa_asm.specs.declared.fault.TextWhy.TheVariants as why
-use Rattle.pisa_asm.specs.declared.fault.AsmFault.{AsmFault}
-use Rattle.pisa_asm.specs.declared.fault.AsmFault.TheVariants as faults
+use Rattle.ss_base.specs.declared.text_fault.TextWhy.{TextWhy}
+use Rattle.ss_base.specs.declared.text_fault.TextWhy.TheVariants as why
+use Rattle.ss_base.specs.declared.text_fault.AsmFault.{AsmFault}
+use Rattle.ss_base.specs.declared.text_fault.AsmFault.TheVariants as faults
 use Rattle.pisa_asm.specs.declared.statements.Section.{Section}
 use Rattle.pisa_asm.specs.declared.statements.Section.TheVariants as section
 use Rattle.pisa_asm.specs.declared.statements.Command.{Command}

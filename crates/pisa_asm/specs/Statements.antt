@@ -7,8 +7,8 @@ use Rattle.pisa_isa.specs.declared.instr.Instr.{Instr}
 use Rattle.pisa_isa.specs.Classes.{is_float_op, operands_of}
 use Rattle.pisa_isa.specs.Table.{all_ops}
 use Rattle.pisa_isa.specs.Texts.{name_of}
-use Rattle.pisa_asm.specs.declared.fault.TextWhy.{TextWhy}
-use Rattle.pisa_asm.specs.declared.fault.TextWhy.TheVariants as why
+use Rattle.ss_base.specs.declared.text_fault.TextWhy.{TextWhy}
+use Rattle.ss_base.specs.declared.text_fault.TextWhy.TheVariants as why
 use Rattle.pisa_asm.specs.declared.slots.Slot.{Slot}
 use Rattle.pisa_asm.specs.declared.slots.Slot.TheVariants as slot
 use Rattle.pisa_asm.specs.declared.statements.Section.TheVariants as section

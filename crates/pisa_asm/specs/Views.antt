@@ -1,6 +1,6 @@
 -- What is seen of the code's records, in which tokens are borrowed.
 use Rattle.std.specs.Prelude.{◌≡◌, ℕ, List, Option, Some, None, Result, Ok, Err, option_map}
-use Rattle.pisa_asm.specs.declared.fault.TextWhy.{TextWhy}
+use Rattle.ss_base.specs.declared.text_fault.TextWhy.{TextWhy}
 use Rattle.pisa_asm.specs.declared.operands.Filled.{Filled}
 use Rattle.pisa_asm.specs.declared.operands.Judge.{Judge}
 use Rattle.pisa_asm.specs.declared.statements.Line.{Line}

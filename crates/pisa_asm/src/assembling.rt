@@ -8,12 +8,12 @@ ghost use Rattle.pisa_asm.specs.Sheets.{pieces_of};
 ghost use Rattle.pisa_asm.specs.Views.{stated_of};
 ghost use Rattle.pisa_asm.specs.Passes.{Answers, Found, after_line, described, entry_after, entry_of, first_pass, image_with, kind_of, laid_out, no_layout, no_sheet, nothing_found, part_onto, parts_in, second_pass, text_in, text_or};
 
-use crate::fault::{AsmFault, TextWhy};
 use crate::labels::Labels;
 use crate::passes::{begins_at, filled, next_line, read, words_on};
 use crate::sheet::{Piece, Sheet};
 use crate::statements::{Command, Section, Statement, Stop};
 use ecoff_load::{Image, Kind, Part, Parts, Text, object_length};
+use ss_base::{AsmFault, TextWhy};
 use std::alloc::{AllocError, Global};
 
 /// What the first pass found: sections, labels, and the label of the entry.

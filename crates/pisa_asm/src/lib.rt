@@ -8,7 +8,6 @@
 #![tactic(auto)]
 
 mod assembling;
-mod fault;
 mod labels;
 mod laws;
 mod letters;
@@ -21,11 +20,11 @@ mod statements;
 mod tokens;
 
 pub use assembling::assemble;
-pub use fault::{AsmFault, TextWhy};
 pub use laws::{
     branches_reach_their_targets, jumps_reach_their_targets, one_instruction_comes_back,
 };
 pub use printing::disassemble;
+pub use ss_base::{AsmFault, TextWhy};
 
 #[cfg(test)]
 mod tests;

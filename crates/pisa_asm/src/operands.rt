@@ -6,15 +6,15 @@ ghost use Rattle.pisa_asm.specs.Operands.{Said, addressed, based, beside, branch
 ghost use Rattle.pisa_asm.specs.Tokens.{number_in as number_in_spec, limited_in as limited_in_spec, residue};
 ghost use Rattle.pisa_isa.specs.Fields.{takes_pair};
 ghost use Rattle.pisa_isa.specs.Table.{row_of};
-ghost use Rattle.pisa_asm.specs.declared.fault.TextWhy.{TextWhy as Why};
+ghost use Rattle.ss_base.specs.declared.text_fault.TextWhy.{TextWhy as Why};
 ghost use Rattle.pisa_asm.specs.declared.slots.Slot.TheVariants as slot;
 ghost use Rattle.pisa_asm.specs.Views.{combined, going, said_of, seen};
 
-use crate::fault::TextWhy;
 use crate::letters::{are_blank, closed, parted, trim};
 use crate::slots::Slot;
 use crate::tokens::{is_label, limited_in, number_in, register_in};
 use pisa_isa::{Instr, Op, branch_target, jump_target};
+use ss_base::TextWhy;
 
 /// What operands say: the fields of an instruction, or a number, and a label that stands for a
 /// target or a value.
@@ -28,17 +28,11 @@ pub(crate) struct Filled<'a> {
     pub label: Option<&'a [u8]>,
 }
 
-impl TextWhy {
-    /// Of two reasons the first in their order.
-    fn first_of(self, other: TextWhy) -> TextWhy
-        ensures { result ≡ first_of self other }
-    {
-        if self as u8 <= other as u8 {
-            self
-        } else {
-            other
-        }
-    }
+/// Of two reasons the first in their order.
+fn earlier(why: TextWhy, other: TextWhy) -> TextWhy
+    ensures { result ≡ first_of why other }
+{
+    if why as u8 <= other as u8 { why } else { other }
 }
 
 /// The field with which a branch at `pc` goes to a target, `None` exactly where no field does.
@@ -175,7 +169,7 @@ fn based<'a>(offset: &[u8], base: &[u8], filled: Filled<'a>) -> Result<Filled<'a
         },
         Err(why) => match register_in(31, base) {
             Ok(_) => Err(why),
-            Err(other) => Err(why.first_of(other)),
+            Err(other) => Err(earlier(why, other)),
         },
     }
 }
@@ -213,7 +207,7 @@ fn indexed<'a>(inner: &'a [u8], filled: Filled<'a>) -> Result<Filled<'a>, TextWh
             ..filled
         }),
         (Ok(_), Err(why)) | (Err(why), Ok(_)) => Err(why),
-        (Err(why), Err(other)) => Err(why.first_of(other)),
+        (Err(why), Err(other)) => Err(earlier(why, other)),
     }
 }
 
@@ -434,7 +428,7 @@ impl<'a, 's> Judge<'a, 's> {
     {
         let first = match self.worst {
             None => why,
-            Some(worst) => worst.first_of(why),
+            Some(worst) => earlier(worst, why),
         };
         Judge {
             slots: self.slots,

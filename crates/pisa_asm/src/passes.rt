@@ -6,13 +6,13 @@ ghost use Rattle.pisa_asm.specs.Letters.{lines_of};
 ghost use Rattle.pisa_asm.specs.Passes.{begins_at, filled, in_place, is_second, label_may_stand, read, resolved, statement_on, target_at, value_at, words_on};
 ghost use Rattle.pisa_asm.specs.Views.{Gives, said_of, seen, stated_of, words_seen};
 
-use crate::fault::TextWhy;
 use crate::labels::Labels;
 use crate::letters::{are_allowed, code_of, parted};
 use crate::operands::{Filled, branch_field, jump_field};
 use crate::sheet::Sheet;
 use crate::statements::{Command, Line, Statement, Stop, command_named, statement_by, words_in};
 use pisa_isa::{Instr, Operands, operands};
+use ss_base::TextWhy;
 use std::alloc::Global;
 
 /// The first line of a text that isn't empty, and what stands behind its newline.

@@ -8,12 +8,12 @@ ghost use Rattle.pisa_asm.specs.declared.statements.Command.TheVariants.{Ascii a
 ghost use Rattle.pisa_asm.specs.declared.statements.Stop.TheVariants as stops;
 ghost use Rattle.pisa_asm.specs.Views.{Gives, said_of, stated_of, words_seen};
 
-use crate::fault::TextWhy;
 use crate::letters::{are_blank, is_blank, parted, trim_start};
 use crate::operands::{Filled, say};
 use crate::slots::{Slot, slots_of};
 use crate::tokens::is_label;
 use pisa_isa::{Instr, Op, name, operands};
+use ss_base::TextWhy;
 use std::alloc::{AllocError, AllocFailed, Global};
 
 /// A section of an object.

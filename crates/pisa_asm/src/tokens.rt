@@ -3,7 +3,7 @@ ghost use Rattle.std.specs.Prelude.{◌≡◌, ◌^◌, ◌-◌, ◌<◌, ◌≤
 ghost use Rattle.std.specs.List.{list_all};
 ghost use Rattle.pisa_asm.specs.Tokens.{decimal_on, hex_digit_value, hex_on, is_decimal, is_digit, is_hex, is_hex_digit, is_label, is_letter, is_name_byte, decimal_in, hex_in, is_within, limited_in, number_in, register_in, residue};
 
-use crate::fault::TextWhy;
+use ss_base::TextWhy;
 
 /// A number of a source: its sign and its magnitude.
 #[derive(Clone, Copy, Debug)]

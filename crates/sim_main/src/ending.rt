@@ -6,9 +6,8 @@ use answers::{Answer, Unbuilt};
 use ecoff_load::ObjectWhy;
 use event_trace::TraceWhy;
 use journal::Fault;
-use pisa_asm::TextWhy;
 use pisa_step::Cause;
-use ss_base::Name;
+use ss_base::{Name, TextWhy};
 
 /// How a command ends.
 #[derive(Debug, Drop)]

@@ -4,8 +4,8 @@ use Rattle.std.specs.Prelude.{◌≡◌, ◌+◌, ◌<◌, ◌++◌, List, ℕ, 
 use Rattle.ss_base.specs.declared.fault.LoadFault.{LoadFault}
 use Rattle.ss_base.specs.Outside.{BeginsWith, Loads}
 
--- known bytes grow by all of these where it went well, and by a front of them, which lacks at least
--- one, where it did not
+-- known bytes grow by all of these where the call succeeded, and by a front of them, which lacks at
+-- least one, where it failed
 abbrev pub WritesWhole : Option (List ℕ) → Option (List ℕ) → List ℕ → Bool → Type 0
 WritesWhole None new bytes whole = Unit {0}
 WritesWhole (Some old) None bytes whole = ⊥

@@ -23,7 +23,7 @@ pub struct HostSink<W> {
     faults: u64,
 }
 
-/// Writes all bytes, and answers whether that went well.
+/// Writes bytes, and answers whether all were written.
 fn write_whole<W: Write>(out: &mut W, bytes: &[u8]) -> bool
     ensures bytes { WritesWhole (W.contents out.old) (W.contents out.new) bytes.now result }
     ensures none { bytes.now ≡ [] → IsTrue result }

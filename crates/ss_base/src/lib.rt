@@ -5,7 +5,7 @@
 //! call fails only where its count of faults rose, that a fault leaves a front of what was to be
 //! written, that files other than the named one stay, and that what is `calm` does not fail from
 //! then on. `MemShelf` and `MemSink` hold what they were given and fail at chosen calls;
-//! `HostShelf` and `HostSink` reach real files and streams.
+//! `SureShelf` and `SureSink` never fail; `HostShelf` and `HostSink` reach real files and streams.
 #![tactic(auto)]
 
 mod bytes;
@@ -13,13 +13,17 @@ mod fault;
 mod host;
 mod memory;
 mod outside;
+mod sure;
 #[cfg(test)]
 mod tests;
 mod text;
+mod text_fault;
 
 pub use bytes::{Bytes, Name};
 pub use fault::{LoadFault, OutOfMemory, PutFault};
 pub use host::{HostShelf, HostSink};
 pub use memory::{MemShelf, MemSink};
 pub use outside::{Shelf, Sink};
+pub use sure::{SureShelf, SureSink};
 pub use text::{get16, get32, get64, push_decimal, push_hex, push_hex_bytes};
+pub use text_fault::{AsmFault, TextWhy};

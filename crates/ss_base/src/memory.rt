@@ -154,7 +154,7 @@ pub struct MemShelf {
 }
 
 /// Puts a file in place of one of that name.
-fn put_file(
+pub(crate) fn put_file(
     files: &mut BTreeMap<String, Vec<u8>>,
     alloc: Global,
     name: &str,
@@ -170,7 +170,7 @@ fn put_file(
 }
 
 /// The bytes of a file with more bytes at their end.
-fn grown_file(
+pub(crate) fn grown_file(
     files: &BTreeMap<String, Vec<u8>>,
     alloc: Global,
     name: &str,
@@ -187,7 +187,7 @@ fn grown_file(
 }
 
 /// Copies the bytes of a file, of which there may be at most `limit`.
-fn copy_file(file: &[u8], limit: u64, into: &mut Vec<u8>) -> Result<(), LoadFault>
+pub(crate) fn copy_file(file: &[u8], limit: u64, into: &mut Vec<u8>) -> Result<(), LoadFault>
     requires { into.old.items ≡ [] }
     ensures loads { Loads file.now limit into.new.items result }
     ensures length { HasLength limit into.new.items result }

@@ -1,6 +1,6 @@
 use crate::{
-    HostShelf, HostSink, LoadFault, MemShelf, MemSink, OutOfMemory, PutFault, Shelf, Sink, get16,
-    get32, get64, push_decimal, push_hex, push_hex_bytes,
+    HostShelf, HostSink, LoadFault, MemShelf, MemSink, OutOfMemory, PutFault, Shelf, Sink, SureShelf,
+    SureSink, get16, get32, get64, push_decimal, push_hex, push_hex_bytes,
 };
 use std::fs::{self, File, OpenOptions};
 use std::io::{Error, ErrorKind, Read, Write};
@@ -40,7 +40,7 @@ fn loads<H: Shelf>(
     answered & (into.as_slice() == bytes)
 }
 
-/// Calls of a shelf that holds file `a`, of which call 5 is to fail; answers whether all went as
+/// Calls of a shelf that holds file `a`, of which call 5 is to fail; answers whether all came as
 /// they should.
 fn memory_files_go_well(shelf: &mut MemShelf, into: &mut Vec<u8>) -> bool {
     let whole = loads(shelf, "a", 5, into, Ok(()), b"hello");
@@ -74,6 +74,32 @@ fn a_memory_sink_holds_bytes(rt: HostRuntime) {
     let second = sink.put(b"ef") == Ok(());
     let held = sink.bytes() == b"abef".as_slice();
     assert!(rt; listed & first & failed & second & held);
+}
+
+/// Calls of a shelf that never fails and holds file `a`; answers whether all came as they should.
+fn sure_files_hold(shelf: &mut SureShelf, into: &mut Vec<u8>) -> bool {
+    let whole = loads(shelf, "a", 5, into, Ok(()), b"hello");
+    let cut = loads(shelf, "a", 4, into, Err(LoadFault::TooLong), b"hello");
+    let missing = loads(shelf, "b", 0, into, Ok(()), b"");
+    let none = shelf.bytes("b") == None;
+    let grown = shelf.append("b", b"xy") == Ok(());
+    let put = shelf.bytes("b") == Some(b"xy".as_slice());
+    let started = shelf.start("b") == Ok(());
+    let empty = shelf.bytes("b") == Some(b"".as_slice());
+    let kept = shelf.bytes("a") == Some(b"hello".as_slice());
+    whole & cut & missing & none & grown & put & started & empty & kept
+}
+
+#[test]
+fn a_sure_shelf_and_sink_never_fail(rt: HostRuntime) {
+    let mut shelf = SureShelf::new(rt.alloc());
+    let mut sink = SureSink::new(rt.alloc());
+    let mut into = Vec::new(rt.alloc());
+    let added = shelf.add("a", b"hello") == Ok(());
+    let files = sure_files_hold(&mut shelf, &mut into);
+    let put = (sink.put(b"ab") == Ok(())) & (sink.put(b"c") == Ok(()));
+    let held = sink.bytes() == b"abc".as_slice();
+    assert!(rt; added & files & put & held);
 }
 
 /// A path of this process's own in the folder of temporary files.

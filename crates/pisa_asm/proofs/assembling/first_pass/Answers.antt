@@ -1,5 +1,5 @@
 use Rattle.std.proofs.Common.{refl, sym, subst, Err, arith}
-use Rattle.pisa_asm.specs.declared.fault.AsmFault.{AsmFault}
+use Rattle.ss_base.specs.declared.text_fault.AsmFault.{AsmFault}
 use Rattle.pisa_asm.specs.Letters.{lines_of}
 use Rattle.pisa_asm.specs.Passes.{first_pass, nothing_found}
 use Rattle.pisa_asm.specs.Kept.{Finds}

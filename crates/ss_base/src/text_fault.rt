@@ -1,6 +1,6 @@
-//! Why a text was refused.
+//! Why a configuration or a source was refused.
 ghost use Rattle.std.specs.Prelude.{◌≡◌};
-ghost use Rattle.pisa_asm.specs.declared.fault.AsmFault.TheVariants as faults;
+ghost use Rattle.ss_base.specs.declared.text_fault.AsmFault.TheVariants as faults;
 
 use std::alloc::AllocError;
 use thiserror::Error;
@@ -11,23 +11,23 @@ use thiserror::Error;
 pub enum TextWhy {
     /// A byte is neither a blank nor printable ASCII.
     Char,
-    /// An option is unknown. No source gives this.
+    /// An option is unknown; in a configuration alone.
     Option,
-    /// An option is another command's. No source gives this.
+    /// An option is another command's; in a configuration alone.
     NotHere,
-    /// A label, a section or `.entry` stands a second time.
+    /// An option, a label, a section or `.entry` stands a second time.
     Twice,
-    /// An operand is missing or empty.
+    /// A value or an operand is missing or empty.
     Missing,
     /// A number was wanted, and something else stands there.
     Number,
     /// A number is outside its limits, or a target is out of reach.
     Range,
-    /// An operand has another shape.
+    /// A value or an operand has another shape.
     Form,
-    /// Something stands behind the last operand.
+    /// Something stands behind the last value or operand.
     Extra,
-    /// There is no such statement.
+    /// There is no such statement; in a source alone, as the three that follow.
     Mnemonic,
     /// A statement or a label stands in a wrong section, or in none.
     Section,
