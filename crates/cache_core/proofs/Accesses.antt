@@ -113,7 +113,7 @@ leaving c n i ways sound at = by_case ((way_at ways i).stamp == 0) refl
     free is =
         let short = length-free n ways sound.stamps i at.inside is in
         let same : from_latest (replaced (stamped ways) (way_at ways i).stamp []) n ≡ newest_first n ways =
-            latest-same n (replaced (stamped ways) (way_at ways i).stamp []) (stamped ways) (λ m p q. replaced-other (stamped ways) (way_at ways i).stamp [] m (λ e. absurd (omega arith)))
+        latest-same n (replaced (stamped ways) (way_at ways i).stamp []) (stamped ways) (λ m p q. replaced-other (stamped ways) (way_at ways i).stamp [] m (λ e. absurd (omega arith)))
         in
         record {
           rest = same ∙ sym (take_all (c.ways - 1) (newest_first n ways) (omega (arith, size, short)));
@@ -128,13 +128,13 @@ leaving c n i ways sound at = by_case ((way_at ways i).stamp == 0) refl
         let l = line_of (way_at ways i) in
         let front = from_latest (replaced (stamped ways) (way_at ways i).stamp []) n in
         let below : (m : ℕ) → 0 < m → m < (way_at ways i).stamp → stamped ways m ≡ [] =
-            λ m p q. stamped-absent ways m (λ j lt e. let le : (way_at ways i).stamp ≤ (way_at ways j).stamp = at.least j unused lt in absurd (omega arith))
+        λ m p q. stamped-absent ways m (λ j lt e. let le : (way_at ways i).stamp ≤ (way_at ways j).stamp = at.least j unused lt in absurd (omega arith))
         in
         let split : newest_first n ways ≡ front ++ l ∷ [] =
-            latest-last (way_at ways i).stamp n (stamped ways) l (stamped-own ways sound.apart i at.inside some) below some (sound.stamps i unused at.inside)
+        latest-last (way_at ways i).stamp n (stamped ways) l (stamped-own ways sound.apart i at.inside some) below some (sound.stamps i unused at.inside)
         in
         let long : length (newest_first n ways) ≡ length ways =
-            length-full n ways sound.stamps (λ j lt. let le : (way_at ways i).stamp ≤ (way_at ways j).stamp = at.least j unused lt in omega arith)
+        length-full n ways sound.stamps (λ j lt. let le : (way_at ways i).stamp ≤ (way_at ways j).stamp = at.least j unused lt in omega arith)
         in
         let count : length front ≡ c.ways - 1 = omega (arith, size, ap length split, length-append front (l ∷ [])) in
         record {

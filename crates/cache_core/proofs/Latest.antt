@@ -83,7 +83,7 @@ module _ (b s : ℕ) (f : ℕ → List Line) (l : Line) (line : f s ≡ l ∷ []
   found_first n e =
       let is : f (suc n) ≡ l ∷ [] = ap f e ∙ line in
       let new : (lines : List Line) → from_latest (replaced f s lines) (suc n) ≡ lines ++ from_latest f n =
-          λ lines. ap (λ ls. ls ++ from_latest (replaced f s lines) n) (replaced-same f s lines (suc n) e) ∙ ap (λ ls. lines ++ ls) (kept_below n lines (omega arith))
+      λ lines. ap (λ ls. ls ++ from_latest (replaced f s lines) n) (replaced-same f s lines (suc n) e) ∙ ap (λ ls. lines ++ ls) (kept_below n lines (omega arith))
       in
       record {
         find = ap (λ ls. find_line b (ls ++ from_latest f n)) is ∙ find_line-head b l (from_latest f n) own;
@@ -100,7 +100,7 @@ module _ (b s : ℕ) (f : ℕ → List Line) (l : Line) (line : f s ≡ l ∷ []
       behind ne r =
           let skip = skips b (f (suc n)) (from_latest f n) (others (suc n) (omega arith) ne) in
           let new : (lines : List Line) → from_latest (replaced f s lines) (suc n) ≡ f (suc n) ++ from_latest (replaced f s lines) n =
-              λ lines. ap (λ ls. ls ++ from_latest (replaced f s lines) n) (replaced-other f s lines (suc n) ne)
+          λ lines. ap (λ ls. ls ++ from_latest (replaced f s lines) n) (replaced-other f s lines (suc n) ne)
           in
           record {
             find = skip.find ∙ r.find;
@@ -124,7 +124,7 @@ latest-last s (suc n) f l line below p q = by_case (suc n == s) refl (λ le. lat
         let is : f (suc n) ≡ l ∷ [] = ap f e ∙ line in
         let rest : from_latest f n ≡ [] = latest-empty n f (λ m a b. below m a (omega arith)) in
         let new : from_latest (replaced f s []) n ≡ [] =
-            latest-empty n (replaced f s []) (λ m a b. replaced-other f s [] m (λ i. absurd (omega arith)) ∙ below m a (omega arith))
+        latest-empty n (replaced f s []) (λ m a b. replaced-other f s [] m (λ i. absurd (omega arith)) ∙ below m a (omega arith))
         in
         ap (λ ls. ls ++ from_latest f n) is
         ∙ (ap (λ ls. (l ∷ []) ++ ls) rest

@@ -53,8 +53,16 @@ module _ (c : CacheConfig) (old ways : List Way) (k : ℕ) (number : length old 
   written_part =
       record {
         number =
-            omega (arith, fits, size, length-append (take (k * c.ways) old) (ways ++ post_of (k * c.ways) c.ways old), length-append ways (post_of (k * c.ways) c.ways old),
-            length-take (k * c.ways) old, length-drop c.ways (drop (k * c.ways) old), length-drop (k * c.ways) old);
+            omega (
+              arith,
+              fits,
+              size,
+              length-append (take (k * c.ways) old) (ways ++ post_of (k * c.ways) c.ways old),
+              length-append ways (post_of (k * c.ways) c.ways old),
+              length-take (k * c.ways) old,
+              length-drop c.ways (drop (k * c.ways) old),
+              length-drop (k * c.ways) old,
+            );
         own =
             let width : k * c.ways + c.ways - k * c.ways ≡ c.ways = omega arith in
             ap (λ m. take m (drop (k * c.ways) (put_mid (k * c.ways) c.ways old ways))) (sym width)
@@ -79,7 +87,7 @@ written c k first n given old ways same is len number below size =
     let width : first + c.ways - first ≡ c.ways = omega arith in
     let part = written_part c old ways k number below size in
     let mid : put_mid first (first + c.ways - first) given ways ≡ put_mid (k * c.ways) c.ways old ways =
-        ap (λ m. put_mid first m given ways) width ∙ (ap (λ m. put_mid m c.ways given ways) is ∙ ap (λ ws. put_mid (k * c.ways) c.ways ws ways) same)
+    ap (λ m. put_mid first m given ways) width ∙ (ap (λ m. put_mid m c.ways given ways) is ∙ ap (λ ws. put_mid (k * c.ways) c.ways ws ways) same)
     in
     subst (λ ws. Written c old (take n (ws ++ drop (length ws) old)) k ways) (sym mid)
     (subst (λ ws. Written c old ws k ways) (sym (all_written n (put_mid (k * c.ways) c.ways old ways) old len part.number)) part)
@@ -96,8 +104,8 @@ becomes_accessed v n k new ways lines sound part more is =
       config = refl;
       own = ap (λ m. newest_first m (ways_of v.config new k)) more ∙ (ap (newest_first (v.counts.accesses + 1)) part.own ∙ is);
       others = λ j below ne.
-        ap (λ m. newest_first m (ways_of v.config new j)) more
-        ∙ (ap (newest_first (v.counts.accesses + 1)) (part.others j ne) ∙ lines_later v.config v.counts.accesses (ways_of v.config v.ways j) (sound.sets j below));
+          ap (λ m. newest_first m (ways_of v.config new j)) more
+          ∙ (ap (newest_first (v.counts.accesses + 1)) (part.others j ne) ∙ lines_later v.config v.counts.accesses (ways_of v.config v.ways j) (sound.sets j below));
     }
 
 pub sound_accessed : (v : Fields) (n : Counts) (k : ℕ) (new ways : List Way) → IsSound v → Written v.config v.ways new k ways → n.accesses ≡ v.counts.accesses + 1 → IsBalanced n

@@ -73,7 +73,7 @@ impl Cache {
         ensures accesses { accesses_of self.new ≡ accesses_of self.old + 1 }
     {
         let block = self.config.block_of(addr);
-        let first = self.config.first_way(block);
+        let first = self.config.first_way(addr);
         let after = first + self.config.ways as usize;
         let ways = &mut self.ways[first..after];
         let touch = touch(ways, block, write, &self.config, self.counts.accesses);
@@ -97,7 +97,7 @@ impl Cache {
         ensures accesses { accesses_of self.new ≡ accesses_of self.old }
     {
         let block = self.config.block_of(addr);
-        let first = self.config.first_way(block);
+        let first = self.config.first_way(addr);
         let after = first + self.config.ways as usize;
         fill(&mut self.ways[first..after], block, end);
     }
@@ -107,7 +107,7 @@ impl Cache {
         ensures { (c : CacheConfig) (h : List Call) → StandsFor self.now c h → result ≡ fill_end_of c h (block_of c addr) }
     {
         let block = self.config.block_of(addr);
-        let first = self.config.first_way(block);
+        let first = self.config.first_way(addr);
         let after = first + self.config.ways as usize;
         fill_end(&self.ways[first..after], block)
     }

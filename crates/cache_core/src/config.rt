@@ -38,11 +38,12 @@ impl CacheConfig {
         addr >> self.block.ilog2()
     }
 
-    /// The place of the first way of a block's set.
-    pub(crate) fn first_way(&self, block: u32) -> usize
+    /// The place of the first way of the set to which an address belongs, where the sets stand one after the other.
+    pub(crate) fn first_way(&self, addr: u32) -> usize
         requires { IsWithinLimits self.now }
-        ensures { result ≡ set_of self.now block * self.now.ways }
+        ensures { result ≡ set_of self.now (block_of self.now addr) * self.now.ways }
     {
+        let block = self.block_of(addr);
         ((block & (self.sets - 1)) * self.ways) as usize
     }
 }

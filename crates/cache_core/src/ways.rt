@@ -48,6 +48,16 @@ impl Way {
         })
     }
 
+    /// Holds a block that comes in from now on.
+    fn enter(&mut self, block: u32, write: bool, stamp: u64)
+        ensures { self.new ≡ entered block write stamp }
+    {
+        self.tag = block;
+        self.dirty = write;
+        self.fill_end = 0;
+        self.stamp = stamp;
+    }
+
     /// Marks the block of a hit, and gives it the hit's stamp where a hit renews a block.
     fn renew(&mut self, write: bool, fifo: bool, stamp: u64)
         ensures { self.new ≡ renewed fifo write stamp self.old }
@@ -111,12 +121,7 @@ pub(crate) fn touch(
         None => {
             let place = oldest(ways);
             let victim = ways[place].victim(config);
-            ways[place] = Way {
-                tag: block,
-                dirty: write,
-                fill_end: 0,
-                stamp: accesses + 1,
-            };
+            ways[place].enter(block, write, accesses + 1);
             Touch { hit: false, victim }
         }
     }

@@ -46,7 +46,8 @@ returns-in-None-clause-lines c =
     let least : LeastAt i ways = record { inside = c.oldest-place.ensures.inside; least = c.oldest-place.ensures.least } in
     let after = (touched c.args.config.now (newest_first n ways) c.args.block c.args.write).lines in
     let lines = lines_of_miss c.args.config.now n c.args.block i c.args.write ways c.requires.sound.0 (sym c.place_of.ensures ∙ c.in-None.is) least in
-    subst (λ k. newest_first k (set ways i (entered c.args.block c.args.write k)) ≡ after) (sym (add-one n)) lines
+    subst (λ w. newest_first (n + 1) (set ways i w) ≡ after) (sym c.enter.ensures)
+    (subst (λ k. newest_first k (set ways i (entered c.args.block c.args.write k)) ≡ after) (sym (add-one n)) lines)
 
 pub returns-in-None-clause-sound : goal.returns-in-None-clause-sound
 returns-in-None-clause-sound c =
@@ -54,4 +55,5 @@ returns-in-None-clause-sound c =
     let ways = c.args.ways.now in
     let i = c.oldest-place.result in
     let sound = miss_sound c.args.config.now n c.args.block i c.args.write ways c.requires.sound.0 (sym c.place_of.ensures ∙ c.in-None.is) c.oldest-place.ensures.inside c.requires.space in
-    subst (λ k. IsSoundSet c.args.config.now k (set ways i (entered c.args.block c.args.write k))) (sym (add-one n)) sound
+    subst (λ w. IsSoundSet c.args.config.now (n + 1) (set ways i w)) (sym c.enter.ensures)
+    (subst (λ k. IsSoundSet c.args.config.now k (set ways i (entered c.args.block c.args.write k))) (sym (add-one n)) sound)

@@ -12,8 +12,7 @@ pub touch-touch-requires-clause-sound : goal.touch-touch-requires-clause-sound
 touch-touch-requires-clause-sound c =
     let config = c.self.inside.config in
     let k = set_of config (block_of config c.args.addr) in
-    let first = c.first_way-first.ensures ∙ ap (λ b. set_of config b * config.ways) c.block_of-block.ensures in
-    let part = part_is config k c.first_way-first.result c.deref_mut.result.now c.self.inside.ways.items c.deref_mut.ensures.value first in
+    let part = part_is config k c.first_way-first.result c.deref_mut.result.now c.self.inside.ways.items c.deref_mut.ensures.value c.first_way-first.ensures in
     let below = set_below config c.self.invariant.limits (block_of config c.args.addr) in
     (subst (IsSoundSet config c.self.inside.counts.accesses) (sym part) (c.self.invariant.sets k below), c.self.invariant.limits.least_ways)
 
@@ -26,17 +25,15 @@ pub invariant_of-self : goal.invariant_of-self
 invariant_of-self c =
     let config = c.self.inside.config in
     let k = set_of config (block_of config c.args.addr) in
-    let first = c.first_way-first.ensures ∙ ap (λ b. set_of config b * config.ways) c.block_of-block.ensures in
     let below = set_below config c.self.invariant.limits (block_of config c.args.addr) in
-    let all = written config k c.first_way-first.result _ c.deref_mut.result.now c.self.inside.ways.items c.touch-touch.new.ways c.deref_mut.ensures.value first c.self.inside.ways.ok.0 c.self.invariant.number below c.touch-touch.ensures.sound.number in
+    let all = written config k c.first_way-first.result _ c.deref_mut.result.now c.self.inside.ways.items c.touch-touch.new.ways c.deref_mut.ensures.value c.first_way-first.ensures c.self.inside.ways.ok.0 c.self.invariant.number below c.touch-touch.ensures.sound.number in
     sound_accessed _ _ k _ _ c.self.invariant all c.count.ensures.accesses c.count.ensures.balanced c.touch-touch.ensures.sound
 
 pub returns-clause-touch : goal.returns-clause-touch
 returns-clause-touch c = λ shape h st.
     let config = c.self.inside.config in
     let k = set_of config (block_of config c.args.addr) in
-    let first = c.first_way-first.ensures ∙ ap (λ b. set_of config b * config.ways) c.block_of-block.ensures in
-    let part = part_is config k c.first_way-first.result c.deref_mut.result.now c.self.inside.ways.items c.deref_mut.ensures.value first in
+    let part = part_is config k c.first_way-first.result c.deref_mut.result.now c.self.inside.ways.items c.deref_mut.ensures.value c.first_way-first.ensures in
     let stands = subst (λ v. StandsFor v shape h) (sym c.self.view_is) st in
     let is_touch = rw (part, c.block_of-block.ensures) at c.touch-touch.ensures.touch in
     touch_stands _ _ _ _ c.self.invariant is_touch shape h stands
@@ -45,10 +42,9 @@ pub returns-clause-stands : goal.returns-clause-stands
 returns-clause-stands c = λ shape h st.
     let config = c.self.inside.config in
     let k = set_of config (block_of config c.args.addr) in
-    let first = c.first_way-first.ensures ∙ ap (λ b. set_of config b * config.ways) c.block_of-block.ensures in
     let below = set_below config c.self.invariant.limits (block_of config c.args.addr) in
-    let part = part_is config k c.first_way-first.result c.deref_mut.result.now c.self.inside.ways.items c.deref_mut.ensures.value first in
-    let all = written config k c.first_way-first.result _ c.deref_mut.result.now c.self.inside.ways.items c.touch-touch.new.ways c.deref_mut.ensures.value first c.self.inside.ways.ok.0 c.self.invariant.number below c.touch-touch.ensures.sound.number in
+    let part = part_is config k c.first_way-first.result c.deref_mut.result.now c.self.inside.ways.items c.deref_mut.ensures.value c.first_way-first.ensures in
+    let all = written config k c.first_way-first.result _ c.deref_mut.result.now c.self.inside.ways.items c.touch-touch.new.ways c.deref_mut.ensures.value c.first_way-first.ensures c.self.inside.ways.ok.0 c.self.invariant.number below c.touch-touch.ensures.sound.number in
     let stands = subst (λ v. StandsFor v shape h) (sym c.self.view_is) st in
     let is_touch = rw (part, c.block_of-block.ensures) at c.touch-touch.ensures.touch in
     let is_lines = rw (part, c.block_of-block.ensures) at c.touch-touch.ensures.lines in
@@ -60,10 +56,9 @@ pub returns-clause-held : goal.returns-clause-held
 returns-clause-held c =
     let config = c.self.inside.config in
     let k = set_of config (block_of config c.args.addr) in
-    let first = c.first_way-first.ensures ∙ ap (λ b. set_of config b * config.ways) c.block_of-block.ensures in
     let below = set_below config c.self.invariant.limits (block_of config c.args.addr) in
-    let part = part_is config k c.first_way-first.result c.deref_mut.result.now c.self.inside.ways.items c.deref_mut.ensures.value first in
-    let all = written config k c.first_way-first.result _ c.deref_mut.result.now c.self.inside.ways.items c.touch-touch.new.ways c.deref_mut.ensures.value first c.self.inside.ways.ok.0 c.self.invariant.number below c.touch-touch.ensures.sound.number in
+    let part = part_is config k c.first_way-first.result c.deref_mut.result.now c.self.inside.ways.items c.deref_mut.ensures.value c.first_way-first.ensures in
+    let all = written config k c.first_way-first.result _ c.deref_mut.result.now c.self.inside.ways.items c.touch-touch.new.ways c.deref_mut.ensures.value c.first_way-first.ensures c.self.inside.ways.ok.0 c.self.invariant.number below c.touch-touch.ensures.sound.number in
     let is_lines = rw (part, c.block_of-block.ensures) at c.touch-touch.ensures.lines in
     let v : Fields = record { config = config; ways = c.self.inside.ways.items; counts = c.self.inside.counts } in
     let becomes = becomes_accessed v c.count.new.self k _ c.touch-touch.new.ways _ c.self.invariant all c.count.ensures.accesses is_lines in

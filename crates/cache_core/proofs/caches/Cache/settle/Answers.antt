@@ -8,8 +8,8 @@ use Rattle.cache_core.proofs.caches.Cache.settle.Goals as goal
 pub invariant_of-self : goal.invariant_of-self
 invariant_of-self c =
     let all =
-        settled_all c.loop-way.way-index c.self.inside.ways.len c.deref_mut-way-items.result.now c.loop-way.way-items c.self.inside.ways.items (omega arith) (omega arith)
-        c.loop-way.invariant c.deref_mut-way-items.ensures.value c.self.inside.ways.ok.0
+    settled_all c.loop-way.way-index c.self.inside.ways.len c.deref_mut-way-items.result.now c.loop-way.way-items c.self.inside.ways.items (omega arith) (omega arith)
+    c.loop-way.invariant c.deref_mut-way-items.ensures.value c.self.inside.ways.ok.0
     in
     sound_settled _ _ c.self.invariant all
 
@@ -19,8 +19,8 @@ loop-way-preserved c = settled_more c.loop-way.way-index c.deref_mut-way-items.r
 pub returns-clause-stands : goal.returns-clause-stands
 returns-clause-stands c = λ shape h st.
     let all =
-        settled_all c.loop-way.way-index c.self.inside.ways.len c.deref_mut-way-items.result.now c.loop-way.way-items c.self.inside.ways.items (omega arith) (omega arith)
-        c.loop-way.invariant c.deref_mut-way-items.ensures.value c.self.inside.ways.ok.0
+    settled_all c.loop-way.way-index c.self.inside.ways.len c.deref_mut-way-items.result.now c.loop-way.way-items c.self.inside.ways.items (omega arith) (omega arith)
+    c.loop-way.invariant c.deref_mut-way-items.ensures.value c.self.inside.ways.ok.0
     in
     let stands = subst (λ v. StandsFor v shape h) (sym c.self.view_is) st in
     let v : Fields = record { config = c.self.inside.config; ways = c.self.inside.ways.items; counts = c.self.inside.counts } in
