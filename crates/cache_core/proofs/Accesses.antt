@@ -1,6 +1,6 @@
 -- What an access, a fill and a settling do to the ways of a set, and to the lines that they stand for.
-use Rattle.std.proofs.Common.{◌≡◌, ◌≢◌, ℕ, zero, suc, ◌+◌, ◌-◌, ◌*◌, ◌^◌, ◌<◌, ◌≤◌, Bool, true, false, cond, List, [], ◌∷◌, ◌++◌, length, get_or, set, take, map, Option, Some, None, refl, sym, ◌∙◌, ap, subst, arith, add-one, length-set, length-append}
-use Rattle.std.specs.Prelude.{All, ◌==◌, position, filter, slice_get, if◌then◌else◌}
+use Rattle.std.proofs.Common.{◌≡◌, ◌≢◌, ℕ, zero, suc, ◌+◌, ◌-◌, ◌*◌, ◌^◌, ◌<◌, ◌≤◌, Bool, true, false, cond, List, [], ◌∷◌, ◌++◌, length, set, take, map, Some, None, refl, sym, ◌∙◌, ap, subst, arith, add-one, length-set, length-append}
+use Rattle.std.specs.Prelude.{All, ◌==◌, filter, slice_get}
 use Rattle.std.specs.Option.{option_map, option_map_or}
 use Rattle.std.proofs.lemmas.Bool.{eqb-true, eqb-false, eq-eqb, ne_eqb, both_ways}
 use Rattle.std.proofs.lemmas.List.{take_all, take_at, length-map}
@@ -8,14 +8,13 @@ use Rattle.std.proofs.Math.ListN.{get_or-map}
 use Rattle.std.proofs.lemmas.List.Elements.{All-set, All-weaker, All-map}
 use Rattle.cache_core.specs.declared.config.CacheConfig.{CacheConfig}
 use Rattle.cache_core.specs.declared.answers.Touch.{Touch}
-use Rattle.cache_core.specs.declared.answers.Victim.{Victim}
 use Rattle.cache_core.specs.declared.ways.Way.{Way}
-use Rattle.cache_core.specs.Replay.{Line, find_line, removed, changed, with_dirty, ending_at, entering, victim_of, touched}
-use Rattle.cache_core.specs.Ways.{unused, way_at, holds, line_of, told_of, from_latest, stamped, newest_first, renewed, entered, ended, AreApart, IsSoundSet}
+use Rattle.cache_core.specs.Replay.{Line, find_line, changed, with_dirty, ending_at, entering, victim_of, touched}
+use Rattle.cache_core.specs.Ways.{unused, way_at, holds, IsPlace, line_of, told_of, from_latest, stamped, newest_first, renewed, entered, ended, IsSoundSet}
 use Rattle.cache_core.proofs.Latest.{replaced, replaced-other, latest-same, latest-map, latest-last, FoundAt}
 use Rattle.cache_core.proofs.Stamps.{has_stamp, stamped-own, stamped-absent, IsFresh, IsNew, restamped, restated, no_later, found, not_found, length-full, length-free, apart-set}
 use Rattle.cache_core.proofs.Touches.{hit_lines, lines-hit, lines-miss}
-use Rattle.cache_core.proofs.Places.{HoldsAt, found_place, no_place}
+use Rattle.cache_core.proofs.Places.{HoldsAt, found_place}
 
 -- ---- a hit
 
@@ -153,23 +152,23 @@ leaving c n i ways sound at = by_case ((way_at ways i).stamp == 0) refl
     by_case true e = free (eqb-true (way_at ways i).stamp 0 e)
     by_case false e = full (eqb-false (way_at ways i).stamp 0 e)
 
-pub lines_of_miss : (c : CacheConfig) (n b i : ℕ) (write : Bool) (ways : List Way) → IsSoundSet c n ways → position (holds b) ways ≡ None → LeastAt i ways
+pub lines_of_miss : (c : CacheConfig) (n b i : ℕ) (write : Bool) (ways : List Way) → IsSoundSet c n ways → IsPlace b ways None → LeastAt i ways
     → newest_first (suc n) (set ways i (entered b write (suc n))) ≡ (touched c (newest_first n ways) b write).lines
 lines_of_miss c n b i write ways sound none at =
     restamped n ways sound.apart sound.stamps i (entered b write (suc n)) at.inside refl
     ∙ (ap (λ ls. entering b write ∷ ls) (leaving c n i ways sound at).rest
-    ∙ sym (lines-miss c (newest_first n ways) b write (not_found b n ways (no_place b ways none))))
+    ∙ sym (lines-miss c (newest_first n ways) b write (not_found b n ways none)))
 
-pub touch_of_miss : (c : CacheConfig) (n b i : ℕ) (write : Bool) (ways : List Way) → IsSoundSet c n ways → position (holds b) ways ≡ None → LeastAt i ways
+pub touch_of_miss : (c : CacheConfig) (n b i : ℕ) (write : Bool) (ways : List Way) → IsSoundSet c n ways → IsPlace b ways None → LeastAt i ways
     → ◌≡◌ {A = Touch} (record { hit = false; victim = told_of c (way_at ways i) }) (touched c (newest_first n ways) b write).touch
 unfolding touched
-touch_of_miss c n b i write ways sound none at = rw (not_found b n ways (no_place b ways none), (leaving c n i ways sound at).told) refl
+touch_of_miss c n b i write ways sound none at = rw (not_found b n ways none, (leaving c n i ways sound at).told) refl
 
-pub miss_sound : (c : CacheConfig) (n b i : ℕ) (write : Bool) (ways : List Way) → IsSoundSet c n ways → position (holds b) ways ≡ None → i < length ways → b * c.block < 2 ^ 32
+pub miss_sound : (c : CacheConfig) (n b i : ℕ) (write : Bool) (ways : List Way) → IsSoundSet c n ways → IsPlace b ways None → i < length ways → b * c.block < 2 ^ 32
     → IsSoundSet c (suc n) (set ways i (entered b write (suc n)))
 miss_sound c n b i write ways sound none h space =
     changed_sound c n i ways (entered b write (suc n)) sound h (omega arith) space (latest_fresh n ways sound.stamps i (entered b write (suc n)) refl)
-    (λ j lt ne some tag. other j (no_place b ways none j lt) some tag)
+    (λ j lt ne some tag. other j (none j lt) some tag)
   where
     other : (j : ℕ) → holds b (way_at ways j) ≡ false → 0 < (way_at ways j).stamp → (way_at ways j).tag ≡ b → ⊥
     other j none some tag =
@@ -179,13 +178,13 @@ miss_sound c n b i write ways sound none h space =
 
 -- ---- a fill
 
-pub lines_of_fill : (c : CacheConfig) (n b i end : ℕ) (ways : List Way) → IsSoundSet c n ways → position (holds b) ways ≡ Some i
+pub lines_of_fill : (c : CacheConfig) (n b i end : ℕ) (ways : List Way) → IsSoundSet c n ways → IsPlace b ways (Some i)
     → newest_first n (set ways i (ended end (way_at ways i))) ≡ changed b (ending_at end) (newest_first n ways)
 lines_of_fill c n b i end ways sound e =
     let at = found_place b i ways e in
     restated n ways sound.apart i (ended end (way_at ways i)) at.inside at.held refl ∙ sym ((found_here c n b i ways sound at).changed (ending_at end))
 
-pub fill_sound : (c : CacheConfig) (n b i end : ℕ) (ways : List Way) → IsSoundSet c n ways → position (holds b) ways ≡ Some i → IsSoundSet c n (set ways i (ended end (way_at ways i)))
+pub fill_sound : (c : CacheConfig) (n b i end : ℕ) (ways : List Way) → IsSoundSet c n ways → IsPlace b ways (Some i) → IsSoundSet c n (set ways i (ended end (way_at ways i)))
 fill_sound c n b i end ways sound e =
     let at = found_place b i ways e in
     let v = ended end (way_at ways i) in
@@ -207,16 +206,16 @@ changed_none b f (l ∷ lines) e = by_case (l.block == b) (changed_none b f line
     by_case true ih e = absurd cc
     by_case false ih e = ap (λ ls. l ∷ ls) (ih e)
 
-pub lines_unfilled : (n b end : ℕ) (ways : List Way) → position (holds b) ways ≡ None → newest_first n ways ≡ changed b (ending_at end) (newest_first n ways)
-lines_unfilled n b end ways none = sym (changed_none b (ending_at end) (newest_first n ways) (not_found b n ways (no_place b ways none)))
+pub lines_unfilled : (n b end : ℕ) (ways : List Way) → IsPlace b ways None → newest_first n ways ≡ changed b (ending_at end) (newest_first n ways)
+lines_unfilled n b end ways none = sym (changed_none b (ending_at end) (newest_first n ways) (not_found b n ways none))
 
-pub fill_end_held : (c : CacheConfig) (n b i : ℕ) (ways : List Way) → IsSoundSet c n ways → position (holds b) ways ≡ Some i
+pub fill_end_held : (c : CacheConfig) (n b i : ℕ) (ways : List Way) → IsSoundSet c n ways → IsPlace b ways (Some i)
     → (way_at ways i).fill_end ≡ option_map_or (λ l. l.fill_end) (find_line b (newest_first n ways)) 0
 fill_end_held c n b i ways sound e =
     ap (λ o. option_map_or (λ (l : Line). l.fill_end) o 0) (sym (found_here c n b i ways sound (found_place b i ways e)).find)
 
-pub fill_end_none : (n b : ℕ) (ways : List Way) → position (holds b) ways ≡ None → 0 ≡ option_map_or (λ l. l.fill_end) (find_line b (newest_first n ways)) 0
-fill_end_none n b ways none = ap (λ o. option_map_or (λ (l : Line). l.fill_end) o 0) (sym (not_found b n ways (no_place b ways none)))
+pub fill_end_none : (n b : ℕ) (ways : List Way) → IsPlace b ways None → 0 ≡ option_map_or (λ l. l.fill_end) (find_line b (newest_first n ways)) 0
+fill_end_none n b ways none = ap (λ o. option_map_or (λ (l : Line). l.fill_end) o 0) (sym (not_found b n ways none))
 
 -- ---- a settling
 

@@ -1,7 +1,6 @@
 -- The ways of one set among those of all.
 use Rattle.std.proofs.Common.{◌≡◌, ◌≢◌, ℕ, zero, suc, ◌+◌, ◌-◌, ◌*◌, ◌^◌, ◌<◌, ◌≤◌, Bool, true, false, List, [], ◌∷◌, ◌++◌, length, set, take, drop, map, replicate, ◌⊎◌, inl, inr, refl, sym, ◌∙◌, ap, subst, arith, length-append, length-take, length-drop}
 use Rattle.std.specs.Prelude.{All, ◌==◌}
-use Rattle.std.specs.List.{between}
 use Rattle.std.proofs.lemmas.Bool.{cases_lt, eqb-true, eqb-false}
 use Rattle.std.proofs.lemmas.Nat.{row_fits}
 use Rattle.std.proofs.lemmas.List.{take_all, drop_all, append-nil, take-map, drop-take, get_or_default, length-map, length-replicate, length-take-le}
@@ -15,7 +14,7 @@ use Rattle.cache_core.specs.declared.ways.Way.{Way}
 use Rattle.cache_core.specs.Limits.{IsWithinLimits}
 use Rattle.cache_core.specs.Replay.{Line, ending_at}
 use Rattle.cache_core.specs.Stands.{IsBalanced}
-use Rattle.cache_core.specs.Ways.{unused, way_at, ended, newest_first, AreApart, IsSoundSet, ways_of}
+use Rattle.cache_core.specs.Ways.{unused, way_at, ended, newest_first, IsSoundSet, ways_of}
 use Rattle.cache_core.specs.Sound.{Fields, lines_in, IsSound}
 use Rattle.cache_core.proofs.Accesses.{lines_of_settling, settling_sound, sound_later, lines_later}
 use Rattle.cache_core.proofs.Replays.{SetBecomes}

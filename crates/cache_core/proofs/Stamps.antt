@@ -1,14 +1,13 @@
 -- What a change of one way does to the lines that a set's ways stand for.
-use Rattle.std.proofs.Common.{◌≡◌, ◌≢◌, ℕ, zero, suc, ◌+◌, ◌-◌, ◌*◌, ◌^◌, ◌<◌, ◌≤◌, Bool, true, false, cond, List, [], ◌∷◌, ◌++◌, length, get_or, set, take, drop, map, Option, Some, None, ◌⊎◌, inl, inr, refl, sym, ◌∙◌, ap, subst, arith, length-set, get_or-set_same, get_or-set_other, length-append}
-use Rattle.std.specs.Prelude.{All, ◌==◌, filter, not, ◌&&◌, ◌||◌}
+use Rattle.std.proofs.Common.{◌≡◌, ◌≢◌, ℕ, zero, suc, ◌+◌, ◌<◌, ◌≤◌, Bool, true, false, cond, List, [], ◌∷◌, ◌++◌, length, set, map, None, ◌⊎◌, inl, inr, refl, sym, ◌∙◌, ap, arith, length-set, get_or-set_same, get_or-set_other, length-append}
+use Rattle.std.specs.Prelude.{All, ◌==◌, filter}
 use Rattle.std.proofs.lemmas.Bool.{eqb-true, eqb-false, eq-eqb, ne_eqb, both_ways}
-use Rattle.std.proofs.lemmas.List.Elements.{All-set, All-weaker, All-get_or, All-tail}
-use Rattle.cache_core.specs.declared.config.CacheConfig.{CacheConfig}
+use Rattle.std.proofs.lemmas.List.Elements.{All-tail}
 use Rattle.cache_core.specs.declared.ways.Way.{Way}
-use Rattle.cache_core.specs.Replay.{Line, find_line, removed, changed, with_dirty, ending_at, entering}
-use Rattle.cache_core.specs.Ways.{unused, way_at, holds, line_of, from_latest, stamped, newest_first, renewed, entered, ended, AreApart, IsSoundSet}
-use Rattle.cache_core.proofs.Lines.{find_line-head, find_line-tail, find_line-is}
-use Rattle.cache_core.proofs.Latest.{replaced, replaced-same, replaced-other, latest-same, latest-empty, latest-first, latest-none, latest-map, latest-last, FoundAt, found_at}
+use Rattle.cache_core.specs.Replay.{find_line}
+use Rattle.cache_core.specs.Ways.{unused, way_at, holds, line_of, from_latest, stamped, newest_first, AreApart}
+use Rattle.cache_core.proofs.Lines.{find_line-tail}
+use Rattle.cache_core.proofs.Latest.{replaced, replaced-same, replaced-other, latest-same, latest-empty, latest-first, latest-none, FoundAt, found_at}
 
 abbrev pub has_stamp : ℕ → Way → Bool
 has_stamp n w = w.stamp == n

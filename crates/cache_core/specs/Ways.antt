@@ -1,5 +1,5 @@
 -- The ways of a set, and the lines that they stand for.
-use Rattle.std.specs.Prelude.{◌≡◌, ℕ, zero, suc, ◌+◌, ◌*◌, ◌^◌, ◌<◌, ◌≤◌, Bool, false, ◌||◌, ◌&&◌, not, if◌then◌else◌, ◌==◌, List, [], ◌++◌, Option, Some, None, length, map, filter, take, drop, slice_index_or, All}
+use Rattle.std.specs.Prelude.{◌≡◌, ℕ, zero, suc, ◌*◌, ◌^◌, ◌<◌, ◌≤◌, Bool, true, false, ◌||◌, ◌&&◌, not, if◌then◌else◌, ◌==◌, List, [], ◌++◌, Option, Some, None, length, map, filter, take, drop, slice_index_or, All}
 use Rattle.cache_core.specs.declared.config.CacheConfig.{CacheConfig}
 use Rattle.cache_core.specs.declared.answers.Victim.{Victim}
 use Rattle.cache_core.specs.declared.ways.Way.{Way}
@@ -15,6 +15,11 @@ way_at ways i = slice_index_or ways i unused
 -- the way holds this block
 abbrev pub holds : ℕ → Way → Bool
 holds b w = (w.tag == b) && not (w.stamp == 0)
+
+-- where a block is among ways: at a place that holds it, or at none
+abbrev pub IsPlace : ℕ → List Way → Option ℕ → Type 0
+IsPlace b ways None = (j : ℕ) → j < length ways → holds b (way_at ways j) ≡ false
+IsPlace b ways (Some i) = (i < length ways) × (holds b (way_at ways i) ≡ true)
 
 -- the line of the block that a way holds
 abbrev pub line_of : Way → Line

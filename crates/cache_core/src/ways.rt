@@ -1,8 +1,8 @@
-ghost use Rattle.std.specs.Prelude.{◌≡◌, ℕ, ◌+◌, ◌*◌, ◌^◌, ◌<◌, ◌≤◌, All, length, position, map, slice_index_or, IsTrue, None};
+ghost use Rattle.std.specs.Prelude.{◌≡◌, ℕ, ◌+◌, ◌*◌, ◌^◌, ◌<◌, ◌≤◌, All, length, slice_index_or, IsTrue, None};
 ghost use Rattle.std.specs.Option.{option_map_or};
 ghost use Rattle.cache_core.specs.declared.config.CacheConfig.{CacheConfig};
 ghost use Rattle.cache_core.specs.Replay.{touched, find_line, changed, ending_at};
-ghost use Rattle.cache_core.specs.Ways.{unused, holds, newest_first, told_of, renewed, entered, ended, IsSoundSet};
+ghost use Rattle.cache_core.specs.Ways.{unused, holds, IsPlace, newest_first, told_of, renewed, entered, ended, IsSoundSet};
 
 use crate::answers::{Touch, Victim};
 use crate::config::CacheConfig;
@@ -32,6 +32,13 @@ impl Way {
             fill_end: 0,
             stamp: 0,
         }
+    }
+
+    /// Whether it holds the block.
+    fn holds(self, block: u32) -> bool
+        ensures { result ≡ holds block self }
+    {
+        self.tag == block && self.stamp != 0
     }
 
     /// What is told of the block when it leaves; nothing where none is held.
@@ -69,12 +76,23 @@ impl Way {
     }
 }
 
-/// The place of the way that holds the block.
+/// The place of the way that holds the block. It looks at every way, since leaving at the one that is found is what a
+/// processor can't foresee.
 fn place_of(ways: &[Way], block: u32) -> Option<usize>
-    ensures { result ≡ position (holds block) ways.now }
+    ensures { IsPlace block ways.now result }
 {
-    ways.iter()
-        .position(|way| way.tag == block && way.stamp != 0)
+    let mut found = ways.len();
+    for place in 0..ways.len() {
+        let way = ways[place];
+        if way.holds(block) {
+            found = place;
+        }
+    }
+    if found < ways.len() {
+        Some(found)
+    } else {
+        None
+    }
 }
 
 /// The place of the way with the least stamp, which holds nothing or the block that leaves first.

@@ -1,4 +1,4 @@
-use Rattle.std.proofs.Common.{◌*◌, sym, subst, ap, ◌∙◌, arith}
+use Rattle.std.proofs.Common.{◌*◌, sym, subst, ap, arith}
 use Rattle.std.proofs.lemmas.Nat.{div-add-mod'}
 use Rattle.cache_core.specs.Replay.{block_of, set_of}
 use Rattle.cache_core.specs.Stands.{StandsFor}

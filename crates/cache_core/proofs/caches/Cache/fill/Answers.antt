@@ -1,7 +1,7 @@
-use Rattle.std.proofs.Common.{◌*◌, length, sym, subst, ap, refl, ◌∙◌, arith}
-use Rattle.cache_core.specs.Replay.{block_of, set_of, changed, ending_at}
+use Rattle.std.proofs.Common.{sym, subst, refl}
+use Rattle.cache_core.specs.Replay.{block_of, set_of}
 use Rattle.cache_core.specs.Stands.{StandsFor}
-use Rattle.cache_core.specs.Ways.{IsSoundSet, newest_first}
+use Rattle.cache_core.specs.Ways.{IsSoundSet}
 use Rattle.cache_core.proofs.Replays.{set_below, stands_fill}
 use Rattle.cache_core.proofs.Parts.{part_is, written, becomes_filled, sound_filled}
 use Rattle.cache_core.proofs.caches.Cache.fill.Goals as goal

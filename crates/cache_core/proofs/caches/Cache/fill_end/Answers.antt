@@ -1,4 +1,4 @@
-use Rattle.std.proofs.Common.{◌*◌, sym, subst, ap, ◌∙◌}
+use Rattle.std.proofs.Common.{sym, subst}
 use Rattle.cache_core.specs.Replay.{block_of, set_of}
 use Rattle.cache_core.specs.Stands.{StandsFor}
 use Rattle.cache_core.specs.Ways.{IsSoundSet}
