@@ -1,25 +1,28 @@
-ghost use Rattle.std.specs.Prelude.{◌≡◌, ℕ, ◌+◌, ◌^◌, ◌<◌, List, [], ◌∷◌, replicate, IfOk};
+ghost use Rattle.std.specs.Prelude.{◌≡◌, ℕ, ◌+◌, ◌*◌, ◌^◌, ◌<◌, ◌≤◌, List, [], ◌∷◌, replicate, IfOk};
 ghost use Rattle.cache_core.specs.declared.config.CacheConfig.{CacheConfig};
 ghost use Rattle.cache_core.specs.Limits.{IsWithinLimits};
 ghost use Rattle.cache_core.specs.Replay.{Call, Access, Fill, Settle, block_of, touch_of, fill_end_of, counts_of};
 ghost use Rattle.cache_core.specs.Stands.{StandsFor, Holds, accesses_of};
+ghost use Rattle.cache_core.specs.Ways.{unused};
 
 use crate::answers::{Counts, Touch};
 use crate::config::CacheConfig;
-use crate::sets::CacheSet;
+use crate::ways::{Way, fill, fill_end, touch};
 use ss_base::OutOfMemory;
 use std::alloc::Global;
 use std::marker::Model;
 
-/// The sets of a cache that holds nothing, with memory for all that it will hold.
-fn empty_sets(alloc: Global, c: &CacheConfig) -> Result<Vec<CacheSet>, OutOfMemory>
-    ensures { IfOk result (λ sets. sets.items ≡ replicate c.now.sets (record { lines = []; room = c.now.ways })) }
+/// The ways of a cache that holds nothing, with memory for all that it will hold.
+fn unused_ways(alloc: Global, c: &CacheConfig) -> Result<Vec<Way>, OutOfMemory>
+    requires { c.now.sets * c.now.ways ≤ 1048576 }
+    ensures { IfOk result (λ ways. ways.items ≡ replicate (c.now.sets * c.now.ways) unused) }
 {
-    let mut sets = Vec::with_capacity(alloc, c.sets as usize)?;
-    for _k in 0..c.sets {
-        sets.push(CacheSet::new(alloc, c.ways)?)?;
+    let number = c.sets * c.ways;
+    let mut ways = Vec::with_capacity(alloc, number as usize)?;
+    for _k in 0..number {
+        ways.push(Way::unused())?;
     }
-    Ok(sets)
+    Ok(ways)
 }
 
 /// A cache: which blocks it holds, which of them are dirty, when each is filled, and how often what happened.
@@ -28,7 +31,7 @@ fn empty_sets(alloc: Global, c: &CacheConfig) -> Result<Vec<CacheSet>, OutOfMemo
 #[derive(Drop)]
 pub struct Cache {
     config: CacheConfig,
-    sets: Vec<CacheSet>,
+    ways: Vec<Way>,
     counts: Counts,
 }
 
@@ -38,9 +41,9 @@ impl Model for Cache {
 
     ghost Value = { Held };
 
-    ghost view = { λ c. shown (record { config = c.config; sets = c.sets.items; counts = c.counts }) };
+    ghost view = { λ c. shown (record { config = c.config; ways = c.ways.items; counts = c.counts }) };
 
-    ghost invariant = { λ c. IsSound (record { config = c.config; sets = c.sets.items; counts = c.counts }) };
+    ghost invariant = { λ c. IsSound (record { config = c.config; ways = c.ways.items; counts = c.counts }) };
 }
 
 impl Cache {
@@ -55,7 +58,7 @@ impl Cache {
     {
         Ok(Cache {
             config: *c,
-            sets: empty_sets(alloc, c)?,
+            ways: unused_ways(alloc, c)?,
             counts: Counts::new(),
         })
     }
@@ -69,9 +72,11 @@ impl Cache {
         ensures held { Holds self.new addr }
         ensures accesses { accesses_of self.new ≡ accesses_of self.old + 1 }
     {
-        let block = addr / self.config.block;
-        let set = (block % self.config.sets) as usize;
-        let touch = self.sets[set].touch(block, write, &self.config);
+        let block = self.config.block_of(addr);
+        let first = self.config.first_way(addr);
+        let after = first + self.config.ways as usize;
+        let ways = &mut self.ways[first..after];
+        let touch = touch(ways, block, write, &self.config, self.counts.accesses);
         self.counts.count(&touch);
         touch
     }
@@ -91,18 +96,20 @@ impl Cache {
         ensures stands { (c : CacheConfig) (h : List Call) → StandsFor self.old c h → StandsFor self.new c (Fill addr end ∷ h) }
         ensures accesses { accesses_of self.new ≡ accesses_of self.old }
     {
-        let block = addr / self.config.block;
-        let set = (block % self.config.sets) as usize;
-        self.sets[set].fill(block, end);
+        let block = self.config.block_of(addr);
+        let first = self.config.first_way(addr);
+        let after = first + self.config.ways as usize;
+        fill(&mut self.ways[first..after], block, end);
     }
 
     /// The fill end of an address's block, and 0 where the block is not held or none was set since it came in.
     pub fn fill_end(&self, addr: u32) -> u64
         ensures { (c : CacheConfig) (h : List Call) → StandsFor self.now c h → result ≡ fill_end_of c h (block_of c addr) }
     {
-        let block = addr / self.config.block;
-        let set = (block % self.config.sets) as usize;
-        self.sets[set].fill_end(block)
+        let block = self.config.block_of(addr);
+        let first = self.config.first_way(addr);
+        let after = first + self.config.ways as usize;
+        fill_end(&self.ways[first..after], block)
     }
 
     /// Makes all fill ends 0. It leaves what is held and dirty, and the counts.
@@ -110,8 +117,8 @@ impl Cache {
         ensures stands { (c : CacheConfig) (h : List Call) → StandsFor self.old c h → StandsFor self.new c (Settle ∷ h) }
         ensures accesses { accesses_of self.new ≡ accesses_of self.old }
     {
-        for set in self.sets.iter_mut() {
-            set.settle();
+        for way in self.ways.iter_mut() {
+            way.fill_end = 0;
         }
     }
 }

@@ -1,5 +1,6 @@
-ghost use Rattle.std.specs.Prelude.{◌↔◌, IsTrue};
+ghost use Rattle.std.specs.Prelude.{◌≡◌, ◌*◌, ◌↔◌, IsTrue};
 ghost use Rattle.cache_core.specs.Limits.{IsWithinLimits};
+ghost use Rattle.cache_core.specs.Replay.{block_of, set_of};
 
 /// The shape of a cache.
 #[derive(Clone, Copy, Debug, PartialEq, Eq)]
@@ -27,5 +28,22 @@ impl CacheConfig {
             && self.ways >= 1
             && self.ways <= 64
             && self.sets * self.ways <= 1_048_576
+    }
+
+    /// The block of an address.
+    pub(crate) fn block_of(&self, addr: u32) -> u32
+        requires { IsWithinLimits self.now }
+        ensures { result ≡ block_of self.now addr }
+    {
+        addr >> self.block.ilog2()
+    }
+
+    /// The place of the first way of the set to which an address belongs, where the sets stand one after the other.
+    pub(crate) fn first_way(&self, addr: u32) -> usize
+        requires { IsWithinLimits self.now }
+        ensures { result ≡ set_of self.now (block_of self.now addr) * self.now.ways }
+    {
+        let block = self.block_of(addr);
+        ((block & (self.sets - 1)) * self.ways) as usize
     }
 }

@@ -14,9 +14,9 @@ mod answers;
 mod caches;
 mod config;
 mod laws;
-mod sets;
 #[cfg(test)]
 mod tests;
+mod ways;
 
 pub use answers::{Counts, Touch, Victim};
 pub use caches::Cache;

@@ -223,6 +223,34 @@ fn the_oldest_block_leaves_a_full_set(rt: HostRuntime) {
     assert!(rt; agree);
 }
 
+/// Two sets of three ways, whose blocks leave by turns.
+#[test]
+fn sets_of_three_ways_stand_apart(rt: HostRuntime) {
+    let steps = [
+        Step::Write(0, MISS),
+        Step::Read(8, MISS),
+        Step::Read(16, MISS),
+        Step::Read(24, MISS),
+        Step::Read(32, MISS),
+        Step::Read(0, HIT),
+        Step::Read(48, clean(16)),
+        Step::Write(40, MISS),
+        Step::Read(56, clean(8)),
+        Step::Read(24, HIT),
+        Step::Read(8, dirty(40)),
+        Step::Read(64, clean(32)),
+        Step::Read(80, dirty(0)),
+    ];
+    assert!(rt;
+        goes(
+            rt.alloc(),
+            shape(2, 8, 3, false),
+            &steps,
+            counted(2, 11, 5, 2)
+        )
+    );
+}
+
 /// One line of the largest block, at the ends of the address space.
 #[test]
 fn the_largest_block_holds_its_addresses(rt: HostRuntime) {

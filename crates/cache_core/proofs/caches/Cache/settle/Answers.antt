@@ -1,20 +1,27 @@
-use Rattle.std.proofs.Common.{arith, sym, subst}
+use Rattle.std.proofs.Common.{sym, subst, refl, arith}
 use Rattle.cache_core.specs.Stands.{StandsFor}
-use Rattle.cache_core.proofs.Replays.{settling_more, settled_sound, stands_settled}
+use Rattle.cache_core.specs.Sound.{Fields}
+use Rattle.cache_core.proofs.Replays.{stands_settle}
+use Rattle.cache_core.proofs.Parts.{settled_more, settled_all, lines_settled, sound_settled}
 use Rattle.cache_core.proofs.caches.Cache.settle.Goals as goal
 
 pub invariant_of-self : goal.invariant_of-self
 invariant_of-self c =
-    settled_sound _ c.self.inside.sets.len c.loop-set.set-index c.deref_mut-set-items.result.now c.loop-set.set-items c.self.invariant
-    (omega (arith, c.self.inside.sets.ok.0)) c.deref_mut-set-items.ensures.value c.loop-set.invariant
+    let all =
+    settled_all c.loop-way.way-index c.self.inside.ways.len c.deref_mut-way-items.result.now c.loop-way.way-items c.self.inside.ways.items (omega arith) (omega arith)
+    c.loop-way.invariant c.deref_mut-way-items.ensures.value c.self.inside.ways.ok.0
+    in
+    sound_settled _ _ c.self.invariant all
 
-pub loop-set-preserved : goal.loop-set-preserved
-loop-set-preserved c =
-    settling_more c.loop-set.set-index _ c.loop-set.set-items c.set-item.result c.settle.new.self c.loop-set.invariant (omega arith)
-    c.settle.ensures.lines c.settle.ensures.sound
+pub loop-way-preserved : goal.loop-way-preserved
+loop-way-preserved c = settled_more c.loop-way.way-index c.deref_mut-way-items.result.now c.loop-way.way-items (omega arith) (omega arith) c.loop-way.invariant
 
 pub returns-clause-stands : goal.returns-clause-stands
 returns-clause-stands c = λ shape h st.
+    let all =
+    settled_all c.loop-way.way-index c.self.inside.ways.len c.deref_mut-way-items.result.now c.loop-way.way-items c.self.inside.ways.items (omega arith) (omega arith)
+    c.loop-way.invariant c.deref_mut-way-items.ensures.value c.self.inside.ways.ok.0
+    in
     let stands = subst (λ v. StandsFor v shape h) (sym c.self.view_is) st in
-    stands_settled _ c.self.inside.sets.len c.loop-set.set-index c.deref_mut-set-items.result.now c.loop-set.set-items c.self.invariant
-    (omega (arith, c.self.inside.sets.ok.0)) c.deref_mut-set-items.ensures.value c.loop-set.invariant (omega arith) shape h stands
+    let v : Fields = record { config = c.self.inside.config; ways = c.self.inside.ways.items; counts = c.self.inside.counts } in
+    stands_settle v _ refl (λ j below. lines_settled v _ all j) refl shape h stands

@@ -1,5 +1,6 @@
-use Rattle.cache_core.proofs.Replays.{Settling}
+use Rattle.std.proofs.Common.{◌≡◌, ◌++◌, map, take, drop}
+use Rattle.cache_core.specs.Ways.{ended}
 use Rattle.cache_core.proofs.caches.Cache.settle.Given as goal
 
-abbrev pub invariant-loop-set : goal.invariant-loop-set
-invariant-loop-set l = Settling l.set-index l.initial.set-items l.set-items
+abbrev pub invariant-loop-way : goal.invariant-loop-way
+invariant-loop-way l = l.way-items ≡ map (ended 0) (take l.way-index l.initial.way-items) ++ drop l.way-index l.initial.way-items
