@@ -4,6 +4,7 @@ pub mod Taking
 pub mod Overlaid
 pub mod Pages
 pub mod Scan
+pub mod Bytes
 pub mod Zeros
 pub mod Reserving
 pub mod Writing

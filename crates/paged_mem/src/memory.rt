@@ -1,5 +1,6 @@
 ghost use Rattle.std.specs.Prelude.{◌≡◌, ℕ, ◌+◌, ◌*◌, ◌/◌, ◌%◌, ◌^◌, ◌<◌, ◌≤◌, ◌⊎◌, ◌↔◌, Bool, false, [], ◌∷◌, length, slice_index, is_some, IsTrue, nat_lt, IfSome, IfNone, IfOk, OnOk};
 ghost use Rattle.std.specs.Bool.{OnFalse};
+ghost use Rattle.std.specs.Int.{w16, w32, to_le_bytes};
 ghost use Rattle.paged_mem.specs.Memory.{page_of, is_reserved, byte_of, IsReserved, Meets, IsRangeReserved, MeetsUnreserved, overlaid, IsZeroPage, HasByte};
 ghost use Rattle.paged_mem.specs.Directory.{IsEmptyOr};
 
@@ -61,7 +62,7 @@ impl PagedMem {
         if at + 2 <= page.len() {
             [page[at], page[at + 1]]
         } else {
-            self.half_by_bytes(addr)
+            self.half_by_bytes(addr).to_le_bytes()
         }
     }
 
@@ -76,7 +77,7 @@ impl PagedMem {
         if at + 4 <= page.len() {
             [page[at], page[at + 1], page[at + 2], page[at + 3]]
         } else {
-            self.word_by_bytes(addr)
+            self.word_by_bytes(addr).to_le_bytes()
         }
     }
 
@@ -103,13 +104,11 @@ impl PagedMem {
         ensures held { IsTrue result ↔ IsRangeReserved self.now addr len }
         ensures missed { OnFalse result (MeetsUnreserved self.now addr len) }
     {
-        let Span { first, end } = pages_met(addr, len);
-        for number in first..end {
-            if !self.has_page(number) {
-                return false;
-            }
+        if 0 < len && len <= PAGE_SIZE - addr % PAGE_SIZE {
+            self.has_page(addr / PAGE_SIZE)
+        } else {
+            self.has_pages(addr, len)
         }
-        true
     }
 
     /// Writes bytes from an address on, in reserved pages.
@@ -205,30 +204,48 @@ impl PagedMem {
         }
     }
 
-    // A half that may lie in two pages.
+    // A half that may lie in two pages. It is handed on as a number, since an array would go through
+    // memory.
     #[cold]
     #[inline(never)]
-    fn half_by_bytes(&self, addr: u32) -> [u8; 2]
+    fn half_by_bytes(&self, addr: u32) -> u16
         requires { addr + 2 ≤ 2 ^ 32 }
-        ensures { result ≡ byte_of self.now addr ∷ byte_of self.now (addr + 1) ∷ [] }
+        ensures { to_le_bytes w16 result ≡ byte_of self.now addr ∷ byte_of self.now (addr + 1) ∷ [] }
     {
-        [self.byte(addr), self.byte(addr + 1)]
+        u16::from_le_bytes([self.byte(addr), self.byte(addr + 1)])
     }
 
-    // A word that may lie in two pages.
+    // A word that may lie in two pages, as a number too.
     #[cold]
     #[inline(never)]
-    fn word_by_bytes(&self, addr: u32) -> [u8; 4]
+    fn word_by_bytes(&self, addr: u32) -> u32
         requires { addr + 4 ≤ 2 ^ 32 }
-        ensures { result ≡ byte_of self.now addr ∷ byte_of self.now (addr + 1)
+        ensures { to_le_bytes w32 result ≡ byte_of self.now addr ∷ byte_of self.now (addr + 1)
             ∷ byte_of self.now (addr + 2) ∷ byte_of self.now (addr + 3) ∷ [] }
     {
-        [
+        u32::from_le_bytes([
             self.byte(addr),
             self.byte(addr + 1),
             self.byte(addr + 2),
             self.byte(addr + 3),
-        ]
+        ])
+    }
+
+    // `reserved`, page by page.
+    #[cold]
+    #[inline(never)]
+    fn has_pages(&self, addr: u32, len: u32) -> bool
+        requires { addr + len ≤ 2 ^ 32 }
+        ensures held { IsTrue result ↔ IsRangeReserved self.now addr len }
+        ensures missed { OnFalse result (MeetsUnreserved self.now addr len) }
+    {
+        let Span { first, end } = pages_met(addr, len);
+        for number in first..end {
+            if !self.has_page(number) {
+                return false;
+            }
+        }
+        true
     }
 }
 

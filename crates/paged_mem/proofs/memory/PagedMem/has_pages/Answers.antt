@@ -2,7 +2,7 @@
 use Rattle.std.proofs.Common.{◌≡◌, ℕ, ◌+◌, ◌<◌, ◌⊎◌, false, sym, ◌∙◌, inl, inr, refl, arith}
 use Rattle.std.proofs.lemmas.Bool.{cases_eq}
 use Rattle.paged_mem.specs.Memory.{is_reserved, IsReserved, Meets}
-use Rattle.paged_mem.proofs.memory.PagedMem.reserved.Goals as goal
+use Rattle.paged_mem.proofs.memory.PagedMem.has_pages.Goals as goal
 
 pub loop-number-init : goal.loop-number-init
 loop-number-init c = λ n meets low. absurd (omega (arith, (c.pages_met-first.ensures.each n meets).0))
