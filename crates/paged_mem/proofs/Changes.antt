@@ -1,7 +1,7 @@
 -- A page that is written or taken, seen as a change of its entry.
-use Rattle.std.proofs.Common.{◌≡◌, ℕ, ◌+◌, ◌*◌, ◌/◌, ◌%◌, ◌<◌, ◌≤◌, ◌⊎◌, List, [], length, get_or, set, replicate, slice_index, Some, refl, sym, ◌∙◌, ap, inl, inr, arith}
+use Rattle.std.proofs.Common.{◌≡◌, ℕ, ◌+◌, ◌*◌, ◌/◌, ◌%◌, ◌<◌, ◌≤◌, ◌⊎◌, List, [], length, get_or, set, replicate, sym, ◌∙◌, ap, inl, inr, arith}
 use Rattle.std.proofs.lemmas.List.{length-replicate}
-use Rattle.paged_mem.specs.Memory.{page_of, is_reserved, byte_of, IsReserved, overlaid}
+use Rattle.paged_mem.specs.Memory.{is_reserved, byte_of, IsReserved, overlaid}
 use Rattle.paged_mem.specs.Directory.{Directory, bytes_of, with_page, pages_of, IsShaped, Reserves}
 use borrow.Rule.Slice.PartMut.{put_mid}
 use Rattle.paged_mem.proofs.Zeros.{slice_index-replicate}

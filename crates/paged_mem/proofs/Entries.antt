@@ -1,7 +1,7 @@
 -- The pages of a directory, by their numbers.
-use Rattle.std.proofs.Common.{◌≡◌, ℕ, zero, suc, ◌+◌, ◌-◌, ◌*◌, ◌/◌, ◌%◌, ◌^◌, ◌<◌, ◌≤◌, ◌⊎◌, true, false, cond, List, [], ◌∷◌, ◌++◌, length, get_or, set, replicate, slice_index, Option, None, Some, is_some, unwrap_or, nat_eq, nat_lt, refl, sym, ◌∙◌, ap, inl, inr, arith, length-set}
+use Rattle.std.proofs.Common.{◌≡◌, ℕ, zero, suc, ◌+◌, ◌-◌, ◌*◌, ◌/◌, ◌%◌, ◌<◌, ◌≤◌, ◌⊎◌, true, false, cond, List, [], ◌∷◌, ◌++◌, length, get_or, set, slice_index, Option, None, Some, is_some, unwrap_or, nat_eq, nat_lt, refl, sym, ◌∙◌, ap, inl, inr, arith, length-set}
 use Rattle.std.proofs.lemmas.Bool.{cases_eq, cases_lt, eq-eqb, ne_eqb, lt-ltb, le-ltb}
-use Rattle.std.proofs.lemmas.List.{get_or_past, get_or-set_same, get_or-set_other, get_or-replicate, length-replicate, nil_from_length}
+use Rattle.std.proofs.lemmas.List.{get_or_past, get_or-set_same, get_or-set_other, nil_from_length}
 use Rattle.paged_mem.specs.Memory.{Pages, page_of, is_reserved, byte_of, IsReserved, IsInAddressSpace}
 use Rattle.paged_mem.specs.Directory.{Directory, bytes_of, with_page, pages_from, leaves_from, pages_of, IsEmptyOr, IsShaped}
 use Rattle.paged_mem.proofs.Pages.{Puts}

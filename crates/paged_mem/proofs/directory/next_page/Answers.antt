@@ -1,7 +1,6 @@
 -- Each leaf is looked at from the first place on that counts.
-use Rattle.std.proofs.Common.{◌≡◌, ℕ, ◌+◌, ◌*◌, ◌<◌, [], get_or, sym, arith}
+use Rattle.std.proofs.Common.{◌≡◌, [], get_or, arith}
 use Rattle.std.proofs.lemmas.List.{get_or_read}
-use Rattle.paged_mem.specs.Directory.{Directory, bytes_of}
 use Rattle.paged_mem.proofs.Scan.{zero_start, zero_next, zero_leaf, bytes_of-place}
 use Rattle.paged_mem.proofs.directory.next_page.Goals as goal
 

@@ -2,7 +2,7 @@
 use Rattle.std.proofs.Common.{◌≡◌, [], ◌∙◌, ap, sym, replicate}
 use Rattle.std.proofs.lemmas.Bool.{eqb-true}
 use Rattle.std.proofs.lemmas.List.{nil_from_length}
-use Rattle.paged_mem.specs.Directory.{Directory, pages_of}
+use Rattle.paged_mem.specs.Directory.{pages_of}
 use Rattle.paged_mem.proofs.Taking.{shaped-new_directory, pages_of-new_directory}
 use Rattle.paged_mem.proofs.directory.take_directory.Goals as goal
 

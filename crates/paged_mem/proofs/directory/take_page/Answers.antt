@@ -1,5 +1,5 @@
 -- The leaf that is lent is the page's, and its new page of zeros stands in the directory.
-use Rattle.std.proofs.Common.{◌≡◌, ℕ, ◌<◌, ◌/◌, ◌%◌, [], length, get_or, sym, ◌∙◌, ap, arith, rules}
+use Rattle.std.proofs.Common.{◌≡◌, ◌<◌, ◌/◌, [], length, get_or, sym, ◌∙◌, ap, rules}
 use Rattle.std.proofs.lemmas.List.{get_or_read}
 use Rattle.paged_mem.specs.Directory.{bytes_of}
 use Rattle.paged_mem.proofs.Entries.{is_reserved-taken}

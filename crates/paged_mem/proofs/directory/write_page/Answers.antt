@@ -1,9 +1,9 @@
 -- The leaf that is lent is the page's, and what is written there stands in the directory.
-use Rattle.std.proofs.Common.{◌≡◌, ℕ, ◌<◌, ◌/◌, ◌%◌, [], length, get_or, sym, ◌∙◌, ap, arith, rules}
+use Rattle.std.proofs.Common.{◌≡◌, ◌<◌, ◌/◌, [], length, get_or, arith, rules}
 use Rattle.std.proofs.lemmas.List.{get_or_read}
 use Rattle.paged_mem.specs.Directory.{bytes_of}
 use Rattle.paged_mem.proofs.Entries.{taken_from_reserved, leaf_taken, page_size}
-use Rattle.paged_mem.proofs.Changes.{Writes, writes}
+use Rattle.paged_mem.proofs.Changes.{writes}
 use Rattle.paged_mem.proofs.directory.write_page.Goals as goal
 
 pub index_mut-requires : goal.index_mut-requires

@@ -1,4 +1,4 @@
-use Rattle.std.proofs.Common.{◌≡◌, [], ◌<◌, ◌≤◌, length, get_or, sym, arith}
+use Rattle.std.proofs.Common.{◌≡◌, [], ◌<◌, ◌≤◌, length, get_or, arith}
 use Rattle.std.proofs.lemmas.List.{get_or_read}
 use Rattle.paged_mem.proofs.Scan.{zero_place, zero_rest}
 use Rattle.paged_mem.proofs.leaf.Leaf.place_from.Goals as goal

@@ -1,5 +1,5 @@
 -- A directory that was never taken has no page, so each byte is 0.
-use Rattle.std.proofs.Common.{◌≡◌, [], false, ◌<◌, length, refl, ap, arith}
+use Rattle.std.proofs.Common.{◌≡◌, [], false, refl, arith}
 use Rattle.paged_mem.specs.Memory.{page_of, is_reserved, byte_of}
 use Rattle.paged_mem.specs.Directory.{Directory, leaves_from, pages_of, IsShaped}
 use Rattle.paged_mem.proofs.memory.PagedMem.new.Goals as goal

@@ -1,6 +1,5 @@
-use Rattle.std.proofs.Common.{◌≡◌, ℕ, ◌+◌, ◌*◌, ◌/◌, ◌%◌, ◌<◌, slice_index, length, refl, sym, ◌∙◌, ap, arith, rules}
-use Rattle.paged_mem.specs.Memory.{byte_of}
-use Rattle.paged_mem.specs.Directory.{bytes_of, pages_of}
+use Rattle.std.proofs.Common.{◌≡◌, rules}
+use Rattle.paged_mem.specs.Directory.{bytes_of}
 use Rattle.paged_mem.proofs.Entries.{page_size, is_reserved-some_bytes, byte_of-entry}
 use Rattle.paged_mem.proofs.memory.PagedMem.page_at.Goals as goal
 

@@ -1,4 +1,4 @@
-use Rattle.std.proofs.Common.{◌≡◌, ℕ, ◌*◌, ◌<◌, ◌≤◌, length, slice_index}
+use Rattle.std.proofs.Common.{◌≡◌, ◌*◌, ◌<◌, length, slice_index}
 use Rattle.paged_mem.specs.Directory.{bytes_of, IsZeroBetween}
 use Rattle.paged_mem.proofs.Scan.{zero_page_between, zero_page_past, has_byte}
 use Rattle.paged_mem.proofs.memory.PagedMem.page_from.Goals as goal
