@@ -1,6 +1,10 @@
+pub mod Entries
+pub mod Changes
+pub mod Taking
 pub mod Overlaid
 pub mod Pages
 pub mod Scan
+pub mod Bytes
 pub mod Zeros
 pub mod Reserving
 pub mod Writing

@@ -1,49 +1,14 @@
--- What a map's look-up, an insertion and a write to one page say of the memory.
-use Rattle.std.proofs.Common.{◌≡◌, ℕ, ◌+◌, ◌*◌, ◌/◌, ◌%◌, ◌^◌, ◌<◌, ◌≤◌, ◌⊎◌, true, false, cond, List, [], ◌∷◌, length, slice_index, Option, None, Some, is_some, nat_eq, refl, sym, ◌∙◌, ap, inl, inr, arith}
+-- What a page that is new, and a write to one page, say of the memory.
+use Rattle.std.proofs.Common.{◌≡◌, ℕ, ◌+◌, ◌*◌, ◌/◌, ◌%◌, ◌^◌, ◌<◌, ◌≤◌, ◌⊎◌, true, false, cond, List, length, slice_index, Option, None, Some, is_some, nat_eq, refl, sym, ◌∙◌, ap, inl, inr, arith}
 use mathlib.Core.Path.{fun_ext}
-use Rattle.std.specs.Map.{lookup}
-use Rattle.std.specs.BTreeMap.{is_at}
-use Rattle.std.specs.Ordering.{nat_cmp, is_eq}
-use Rattle.std.proofs.lemmas.Bool.{cases_eq, cases_lt, cases_order, cases_Bool, eq-eqb, ne_eqb, lt-ltb, le-ltb}
+use Rattle.std.proofs.lemmas.Bool.{cases_eq, cases_lt, cases_Bool, eq-eqb, ne_eqb}
 use Rattle.paged_mem.specs.Memory.{Pages, page_of, is_reserved, byte_of, IsReserved, IsInAddressSpace, IsZeroPage, overlaid}
 use Rattle.paged_mem.proofs.Overlaid.{overlaid-before, overlaid-past, overlaid-moved}
 
-pub is_eq-nat_cmp : (a b : ℕ) → is_eq (nat_cmp a b) ≡ nat_eq a b
-is_eq-nat_cmp a b = by_order (cases_order a b)
-  where
-    by_order : (a ≡ b) ⊎ ((a < b) ⊎ (b < a)) → is_eq (nat_cmp a b) ≡ nat_eq a b
-    by_order (inl e) = rw (le-ltb a b (omega arith), eq-eqb a b e) refl
-    by_order (inr (inl h)) = rw (lt-ltb a b h, ne_eqb a b (λ e. omega arith)) refl
-    by_order (inr (inr h)) = rw (le-ltb a b (omega arith), ne_eqb a b (λ e. omega arith)) refl
-
--- a map's look-up finds the page
-pub lookup-page_of : (memory : Pages) (number : ℕ) → lookup (is_at (nat_cmp number)) memory ≡ page_of memory number
-unfolding page_of
-lookup-page_of [] number = refl
-lookup-page_of (page ∷ memory) number = rw (lookup-page_of memory number, is_eq-nat_cmp number page.0) refl
-
--- a page that is reserved, and one that isn't
+-- a page that is reserved
 pub is_reserved-some : (memory : Pages) (number : ℕ) (bytes : List ℕ) → page_of memory number ≡ Some bytes → is_reserved memory number ≡ true
 unfolding is_reserved
 is_reserved-some memory number bytes e = ap is_some e
-
-pub is_reserved-none : (memory : Pages) (number : ℕ) → page_of memory number ≡ None → is_reserved memory number ≡ false
-unfolding is_reserved
-is_reserved-none memory number e = ap is_some e
-
--- what a map's test for a key answers
-pub is_some-lookup : (memory : Pages) (number : ℕ) → is_some (lookup (is_at (nat_cmp number)) memory) ≡ is_reserved memory number
-unfolding is_reserved
-is_some-lookup memory number = ap is_some (lookup-page_of memory number)
-
--- a reserved page has bytes
-pub bytes_of_reserved : (memory : Pages) (number : ℕ) → IsReserved memory number → (bytes : List ℕ) × (page_of memory number ≡ Some bytes)
-unfolding is_reserved
-bytes_of_reserved memory number h = of_option (page_of memory number) h
-  where
-    of_option : (o : Option (List ℕ)) → is_some o ≡ true → (bytes : List ℕ) × (o ≡ Some bytes)
-    of_option None e = absurd (cc)
-    of_option (Some bytes) e = (bytes, refl)
 
 -- a page that isn't reserved has none
 pub page_of-unreserved : (memory : Pages) (number : ℕ) → is_reserved memory number ≡ false → page_of memory number ≡ None
@@ -73,14 +38,6 @@ pub byte_of-unreserved : (memory : Pages) (a : ℕ) → page_of memory (a / 4096
 unfolding byte_of
 byte_of-unreserved memory a e = rw e refl
 
--- the byte at an offset in a page
-pub byte_of-in_page : (memory : Pages) (number k : ℕ) (bytes : List ℕ) → page_of memory number ≡ Some bytes → k < 4096 → byte_of memory (4096 * number + k) ≡ slice_index bytes k
-byte_of-in_page memory number k bytes e h =
-    let page : (4096 * number + k) / 4096 ≡ number = omega arith in
-    let offset : (4096 * number + k) % 4096 ≡ k = omega arith in
-    let found : page_of memory ((4096 * number + k) / 4096) ≡ Some bytes = rw page e in
-    byte_of-reserved memory (4096 * number + k) bytes found ∙ ap (slice_index bytes) offset
-
 -- a page of zeros, and a page that isn't reserved
 pub zero_page : (memory : Pages) (number : ℕ) (bytes : List ℕ) → page_of memory number ≡ Some bytes → ((k : ℕ) → slice_index bytes k ≡ 0) → IsZeroPage memory number
 zero_page memory number bytes e zeros a lies = byte_of-reserved memory a bytes (rw lies e) ∙ zeros (a % 4096)
@@ -91,11 +48,6 @@ unreserved_page memory number e a lies = byte_of-unreserved memory a (rw lies e)
 -- one page has other bytes, or is new, and the others stay
 abbrev pub Puts : Pages → Pages → ℕ → List ℕ → Type 0
 Puts old new number bytes = (q : ℕ) → page_of new q ≡ cond (nat_eq number q) (Some bytes) (page_of old q)
-
--- what an update of a map says
-pub puts_from_update : (old new : Pages) (number : ℕ) (bytes : List ℕ) → ((q : ℕ) → lookup (is_at (nat_cmp q)) new ≡ cond (is_at (nat_cmp number) q) (Some bytes) (lookup (is_at (nat_cmp q)) old)) → Puts old new number bytes
-puts_from_update old new number bytes h q =
-    sym (lookup-page_of new q) ∙ h q ∙ rw (is_eq-nat_cmp number q, lookup-page_of old q) refl
 
 pub puts_here : (old new : Pages) (number : ℕ) (bytes : List ℕ) → Puts old new number bytes → page_of new number ≡ Some bytes
 puts_here old new number bytes h = h number ∙ rw (eq-eqb number number refl) refl
@@ -162,14 +114,6 @@ reserved_after old new number bytes h q held = each (cases_eq number q)
     each : (number ≡ q) ⊎ (number ≡ q → ⊥) → IsReserved new q
     each (inl e) = rw (← e) (is_reserved-some new number bytes (puts_here old new number bytes h))
     each (inr apart) = is_reserved-same old new q (puts_elsewhere old new number bytes h q apart) ∙ held
-
--- no page outside the address space becomes reserved
-pub in_address_space : (old new : Pages) (number : ℕ) (bytes : List ℕ) → Puts old new number bytes → IsInAddressSpace old → number < 2 ^ 20 → IsInAddressSpace new
-in_address_space old new number bytes h space low q held = each (reserved_before old new number bytes h q held)
-  where
-    each : IsReserved old q ⊎ (q ≡ number) → q < 2 ^ 20
-    each (inl before) = space q before
-    each (inr e) = omega arith
 
 -- a memory reads 0 at each address from 2^32 on
 pub byte_of-outside : (memory : Pages) → IsInAddressSpace memory → (a : ℕ) → 2 ^ 32 ≤ a → byte_of memory a ≡ 0

@@ -41,6 +41,26 @@ fn holds(memory: &PagedMem, rows: &[(u32, u8)]) -> bool {
     rows.iter().all(|(addr, want)| memory.byte(*addr) == *want)
 }
 
+/// Whether from each of these addresses on there are these two bytes.
+fn holds_halves(memory: &PagedMem, rows: &[(u32, [u8; 2])]) -> bool {
+    for (addr, want) in rows {
+        if *addr > 0xffff_fffe || memory.half_bytes(*addr) != *want {
+            return false;
+        }
+    }
+    true
+}
+
+/// Whether from each of these addresses on there are these four bytes.
+fn holds_words(memory: &PagedMem, rows: &[(u32, [u8; 4])]) -> bool {
+    for (addr, want) in rows {
+        if *addr > 0xffff_fffc || memory.word_bytes(*addr) != *want {
+            return false;
+        }
+    }
+    true
+}
+
 /// Whether each of these ranges is reserved, or isn't.
 fn reserves(memory: &PagedMem, rows: &[(u32, u32, bool)]) -> bool {
     for (addr, len, want) in rows {
@@ -91,6 +111,89 @@ fn bytes_are_read_where_they_were_written(rt: HostRuntime) {
             (0xffff_ffff, 7),
         ],
     );
+    assert!(rt; agrees);
+}
+
+#[test]
+fn the_last_page_is_found_behind_the_first_two(rt: HostRuntime) {
+    let mut memory = PagedMem::new(rt.alloc());
+    let agrees = put_each(
+        &mut memory,
+        &[
+            (0x0000_0fff, &[1]),
+            (0x0000_1000, &[2]),
+            (0xffff_ffff, &[3]),
+        ],
+    ) && holds(
+        &memory,
+        &[
+            (0x0000_0000, 0),
+            (0x0000_0fff, 1),
+            (0x0000_1000, 2),
+            (0xffff_f000, 0),
+            (0xffff_ffff, 3),
+        ],
+    ) && finds(&memory, &[(0, Some(0)), (1, Some(1)), (2, Some(0xf_ffff))]);
+    assert!(rt; agrees);
+}
+
+#[test]
+fn halves_and_words_are_read_across_pages_and_leaves(rt: HostRuntime) {
+    let mut memory = PagedMem::new(rt.alloc());
+    let agrees = put_each(
+        &mut memory,
+        &[
+            (0x0000_0ffd, &[1, 2, 3, 4, 5, 6]),
+            (0x003f_fffe, &[7, 8, 9, 10]),
+            (0xffff_fffc, &[11, 12, 13, 14]),
+        ],
+    ) && holds_halves(
+        &memory,
+        &[
+            (0x0000_0ffe, [2, 3]),
+            (0x0000_0fff, [3, 4]),
+            (0x0000_1000, [4, 5]),
+            (0x0000_1fff, [0, 0]),
+            (0x003f_ffff, [8, 9]),
+            (0x0040_0fff, [0, 0]),
+            (0xffff_fffe, [13, 14]),
+        ],
+    ) && holds_words(
+        &memory,
+        &[
+            (0x0000_0ffc, [0, 1, 2, 3]),
+            (0x0000_0ffd, [1, 2, 3, 4]),
+            (0x0000_0ffe, [2, 3, 4, 5]),
+            (0x0000_0fff, [3, 4, 5, 6]),
+            (0x0000_1000, [4, 5, 6, 0]),
+            (0x003f_fffd, [0, 7, 8, 9]),
+            (0x0040_0000, [9, 10, 0, 0]),
+            (0x7fff_fffe, [0, 0, 0, 0]),
+            (0xffff_fffc, [11, 12, 13, 14]),
+        ],
+    );
+    assert!(rt; agrees);
+}
+
+#[test]
+fn pages_are_reserved_over_two_leaves(rt: HostRuntime) {
+    let mut memory = PagedMem::new(rt.alloc());
+    let agrees = reserve_each(&mut memory, &[(0x003f_e800, 0x3000)])
+        && reserves(
+            &memory,
+            &[
+                (0x003f_e000, 0x4000, true),
+                (0x003f_ffff, 2, true),
+                (0x003f_ffff, 4, true),
+                (0x003f_dfff, 1, false),
+                (0x003f_dfff, 2, false),
+                (0x0040_2000, 1, false),
+                (0x0040_1fff, 2, false),
+                (0x007f_ffff, 1, false),
+            ],
+        )
+        && put_each(&mut memory, &[(0x003f_ffff, &[1, 2])])
+        && holds(&memory, &[(0x003f_ffff, 1), (0x0040_0000, 2), (0, 0)]);
     assert!(rt; agrees);
 }
 
