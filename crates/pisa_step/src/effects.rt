@@ -13,7 +13,7 @@ use crate::action::{
 use crate::cause::Cause;
 use crate::changes::{Changes, MemWrite, TextRange};
 use crate::machine::Machine;
-use crate::memory::{meets_text, word};
+use crate::memory::meets_text;
 use crate::words::extend_half;
 use arrayvec::ArrayVec;
 use pisa_isa::{Instr, Op, branch_target, jump_target, number};
@@ -335,8 +335,8 @@ fn load_pair<M: Machine>(m: &M, i: &Instr, pc: u32, address: Address) -> Result<
     if a % 8 != 0 {
         return Err(Cause::Misaligned { addr: a });
     }
-    let mut regs = registers(i.rt, word(m, a));
-    regs.push((i.rt + 1, word(m, a + 4)));
+    let mut regs = registers(i.rt, m.word(a));
+    regs.push((i.rt + 1, m.word(a + 4)));
     Ok(loaded(pc, a, regs))
 }
 
@@ -347,7 +347,7 @@ fn load_part<M: Machine>(m: &M, i: &Instr, pc: u32, side: Side) -> Changes
 {
     let a = Address::Offset.of(m, i);
     let place = a % 4;
-    let value = side.merged(m.big(), place, word(m, a - place), m.reg(i.rt));
+    let value = side.merged(m.big(), place, m.word(a - place), m.reg(i.rt));
     loaded(pc, a, registers(i.rt, value))
 }
 
