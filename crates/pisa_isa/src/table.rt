@@ -260,6 +260,7 @@ pub fn name_of(op: Op) -> &'static str
 }
 
 /// The number of an operation: its opcode.
+#[inline(always)]
 pub fn number_of(op: Op) -> u16
     ensures { result ≡ (row_of op).number }
 {
@@ -268,6 +269,7 @@ pub fn number_of(op: Op) -> u16
 
 impl Operands {
     /// The operands of an operation.
+    #[inline(always)]
     pub(crate) fn of(op: Op) -> Operands
         ensures { result ≡ (row_of op).operands }
     {
@@ -277,6 +279,7 @@ impl Operands {
 
 impl UnitClass {
     /// The functional unit that an operation takes.
+    #[inline(always)]
     pub(crate) fn of(op: Op) -> UnitClass
         ensures { result ≡ (row_of op).unit }
     {
@@ -286,6 +289,7 @@ impl UnitClass {
 
 impl Kind {
     /// What an operation does with its operands.
+    #[inline(always)]
     pub fn of(op: Op) -> Kind
         ensures { result ≡ (row_of op).kind }
     {

@@ -278,6 +278,7 @@ fn jump_register<M: Machine>(m: &M, i: &Instr, pc: u32, link: Link) -> Changes
 }
 
 /// A branch.
+#[inline(always)]
 fn branch<M: Machine>(m: &M, i: &Instr, pc: u32, test: Condition) -> Changes
     requires { AreRegisters i.now }
     ensures { result ≡ branches (is_taken test ((M.reads m.now).regs i.now.rs) ((M.reads m.now).regs i.now.rt)) pc (branch_target pc i.now.imm) }
@@ -443,6 +444,7 @@ fn loaded(pc: u32, a: u32, regs: ArrayVec<(u8, u32), 2>) -> Changes
 }
 
 /// A byte, a half or a word of memory into a register.
+#[inline(always)]
 fn load<M: Machine>(
     m: &M,
     i: &Instr,
@@ -487,6 +489,7 @@ fn load_part<M: Machine>(m: &M, i: &Instr, pc: u32, side: Side) -> Changes
 }
 
 /// A write of bytes from `start` on by an access to `a`.
+#[inline(always)]
 fn put(
     text: TextRange,
     pc: u32,
@@ -508,6 +511,7 @@ fn put(
 }
 
 /// A register, a part of it, two registers or zeros into memory.
+#[inline(always)]
 fn store<M: Machine>(
     m: &M,
     i: &Instr,

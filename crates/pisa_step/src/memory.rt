@@ -53,6 +53,7 @@ impl Loaded {
     }
 
     /// What a load gives.
+    #[inline(always)]
     pub fn value<M: Machine>(self, m: &M, a: u32) -> u32
         requires { a + loaded_size self ≤ 2 ^ 32 }
         ensures { result ≡ loaded_of self (M.reads m.now) a }
@@ -68,14 +69,13 @@ impl Loaded {
 }
 
 /// A vector of the bytes of a slice.
+#[inline(always)]
 fn collected(bytes: &[u8]) -> ArrayVec<u8, 8>
     requires { length bytes.now ≤ 8 }
     ensures { result ≡ vec_of bytes.now }
 {
     let mut all = ArrayVec::new();
-    for byte in bytes {
-        all.push(*byte);
-    }
+    let _fits = all.try_extend_from_slice(bytes);
     all
 }
 
@@ -94,6 +94,7 @@ impl Stored {
     }
 
     /// What a store writes, where `rt` is its register.
+    #[inline(always)]
     pub fn bytes<M: Machine>(self, m: &M, rt: u8) -> ArrayVec<u8, 8>
         requires register { rt < 32 }
         requires pair { self ≡ Stored.Pair → rt < 31 }
