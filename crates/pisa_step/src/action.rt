@@ -1,4 +1,4 @@
-//! The class of each operation.
+//! The classes of operations.
 
 /// What an operation does, by class, with the operands that it takes.
 #[derive(Clone, Copy, Debug, PartialEq, Eq)]
