@@ -1,4 +1,5 @@
 ghost use Rattle.std.specs.Prelude.{◌≡◌, ◌+◌, ◌<◌, ◌≤◌, ◌^◌, ◌↔◌, ℕ, IsTrue, length};
+ghost use Rattle.pisa_step.specs.Memory.{half_at, word_at};
 ghost use Rattle.pisa_step.specs.Reader.{Reader, with_reg, with_hi, with_lo, with_bytes};
 
 /// Registers and memory that instructions read and write.
@@ -35,6 +36,41 @@ pub trait Machine {
     /// Whether words and halves have their highest byte first.
     fn big(&self) -> bool
         ensures { result ≡ (reads self.now).big };
+
+    /// The half at an address, in the machine's byte order.
+    ///
+    /// A machine that finds its bytes side by side may read them at once.
+    fn half(&self, addr: u32) -> u16
+        requires { addr + 2 ≤ 2 ^ 32 }
+        ensures { result ≡ half_at (reads self.now) addr }
+    {
+        let bytes = [self.byte(addr), self.byte(addr + 1)];
+        if self.big() {
+            u16::from_be_bytes(bytes)
+        } else {
+            u16::from_le_bytes(bytes)
+        }
+    }
+
+    /// The word at an address, in the machine's byte order.
+    ///
+    /// A machine that finds its bytes side by side may read them at once.
+    fn word(&self, addr: u32) -> u32
+        requires { addr + 4 ≤ 2 ^ 32 }
+        ensures { result ≡ word_at (reads self.now) addr }
+    {
+        let bytes = [
+            self.byte(addr),
+            self.byte(addr + 1),
+            self.byte(addr + 2),
+            self.byte(addr + 3),
+        ];
+        if self.big() {
+            u32::from_be_bytes(bytes)
+        } else {
+            u32::from_le_bytes(bytes)
+        }
+    }
 
     /// Whether there is room for a write of `len` bytes from `addr` on.
     fn room(&self, addr: u32, len: u32) -> bool

@@ -1,7 +1,7 @@
 //! Words and halves in memory.
 ghost use Rattle.std.specs.Prelude.{◌≡◌, ◌+◌, ◌-◌, ◌%◌, ◌<◌, ◌≤◌, ◌^◌, ◌++◌, length};
 ghost use Rattle.pisa_step.specs.Effect.{vec_of};
-ghost use Rattle.pisa_step.specs.Memory.{half_at, half_bytes, loaded_of, loaded_size, meets, part_loaded, part_start, part_stored, over_low, over_high, stored_of, stored_size, word_at, word_bytes};
+ghost use Rattle.pisa_step.specs.Memory.{half_bytes, loaded_of, loaded_size, meets, part_loaded, part_start, part_stored, over_low, over_high, stored_of, stored_size, word_bytes};
 ghost use Rattle.pisa_step.specs.Words.{byte_extended};
 
 use crate::action::{Loaded, Side, Stored};
@@ -15,32 +15,6 @@ fn extend_byte(byte: u8) -> u32
     ensures { result ≡ byte_extended byte }
 {
     (byte.cast_signed() as i32).cast_unsigned()
-}
-
-/// The half at an address, in the machine's byte order.
-fn half<M: Machine>(m: &M, a: u32) -> u16
-    requires { a + 2 ≤ 2 ^ 32 }
-    ensures { result ≡ half_at (M.reads m.now) a }
-{
-    let bytes = [m.byte(a), m.byte(a + 1)];
-    if m.big() {
-        u16::from_be_bytes(bytes)
-    } else {
-        u16::from_le_bytes(bytes)
-    }
-}
-
-/// The word at an address, in the machine's byte order.
-pub fn word<M: Machine>(m: &M, a: u32) -> u32
-    requires { a + 4 ≤ 2 ^ 32 }
-    ensures { result ≡ word_at (M.reads m.now) a }
-{
-    let bytes = [m.byte(a), m.byte(a + 1), m.byte(a + 2), m.byte(a + 3)];
-    if m.big() {
-        u32::from_be_bytes(bytes)
-    } else {
-        u32::from_le_bytes(bytes)
-    }
 }
 
 /// The bytes of a half, in a byte order.
@@ -79,6 +53,7 @@ impl Loaded {
     }
 
     /// What a load gives.
+    #[inline(always)]
     pub fn value<M: Machine>(self, m: &M, a: u32) -> u32
         requires { a + loaded_size self ≤ 2 ^ 32 }
         ensures { result ≡ loaded_of self (M.reads m.now) a }
@@ -86,22 +61,21 @@ impl Loaded {
         match self {
             Loaded::Byte => extend_byte(m.byte(a)),
             Loaded::ByteUnsigned => m.byte(a) as u32,
-            Loaded::Half => extend_half(half(m, a)),
-            Loaded::HalfUnsigned => half(m, a) as u32,
-            Loaded::Word => word(m, a),
+            Loaded::Half => extend_half(m.half(a)),
+            Loaded::HalfUnsigned => u32::from(m.half(a)),
+            Loaded::Word => m.word(a),
         }
     }
 }
 
 /// A vector of the bytes of a slice.
+#[inline(always)]
 fn collected(bytes: &[u8]) -> ArrayVec<u8, 8>
     requires { length bytes.now ≤ 8 }
     ensures { result ≡ vec_of bytes.now }
 {
     let mut all = ArrayVec::new();
-    for byte in bytes {
-        all.push(*byte);
-    }
+    let _fits = all.try_extend_from_slice(bytes);
     all
 }
 
@@ -120,6 +94,7 @@ impl Stored {
     }
 
     /// What a store writes, where `rt` is its register.
+    #[inline(always)]
     pub fn bytes<M: Machine>(self, m: &M, rt: u8) -> ArrayVec<u8, 8>
         requires register { rt < 32 }
         requires pair { self ≡ Stored.Pair → rt < 31 }

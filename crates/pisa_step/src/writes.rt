@@ -54,13 +54,19 @@ fn write_lo<M: Machine>(m: &mut M, value: Option<u32>)
     }
 }
 
-/// Sets registers to values, in order.
+/// Sets registers, at most two, to values, in order.
 fn write_registers<M: Machine>(m: &mut M, regs: &[(u8, u32)])
-    requires { All (λ w. w.0 < 32) regs.now }
+    requires registers { All (λ w. w.0 < 32) regs.now }
+    requires fits { length regs.now ≤ 2 }
     ensures reads { M.reads m.new ≡ with_regs (M.reads m.old) regs.now }
     ensures agrees { M.agrees m.old m.new }
 {
-    for (register, value) in regs {
-        m.set_reg(*register, *value);
+    match regs {
+        [] => {}
+        [(register, value)] => m.set_reg(*register, *value),
+        [(first, low), (second, high), ..] => {
+            m.set_reg(*first, *low);
+            m.set_reg(*second, *high);
+        }
     }
 }
