@@ -1,6 +1,6 @@
 use crate::{
-    HostShelf, HostSink, LoadFault, MemShelf, MemSink, OutOfMemory, PutFault, Shelf, Sink, SureShelf,
-    SureSink, get16, get32, get64, push_decimal, push_hex, push_hex_bytes,
+    HostShelf, HostSink, LoadFault, MemShelf, MemSink, OutOfMemory, PutFault, Shelf, Sink,
+    SureShelf, SureSink, get16, get32, get64, push_decimal, push_hex, push_hex_bytes,
 };
 use std::fs::{self, File, OpenOptions};
 use std::io::{Error, ErrorKind, Read, Write};
