@@ -1,11 +1,11 @@
 -- A page that is written or taken, seen as a change of its entry.
-use Rattle.std.proofs.Common.{◌≡◌, ℕ, ◌+◌, ◌*◌, ◌/◌, ◌%◌, ◌<◌, ◌≤◌, ◌⊎◌, List, [], length, get_or, set, replicate, sym, ◌∙◌, ap, inl, inr, arith}
+use Rattle.std.proofs.Common.{◌≡◌, ℕ, ◌+◌, ◌*◌, ◌/◌, ◌%◌, ◌<◌, ◌≤◌, ◌⊎◌, List, [], length, get_or, set, replicate, refl, sym, ◌∙◌, ap, inl, inr, arith}
 use Rattle.std.proofs.lemmas.List.{length-replicate}
-use Rattle.paged_mem.specs.Memory.{is_reserved, byte_of, IsReserved, overlaid}
-use Rattle.paged_mem.specs.Directory.{Directory, bytes_of, with_page, pages_of, IsShaped, Reserves}
+use Rattle.paged_mem.specs.Memory.{is_reserved, byte_of, IsReserved}
+use Rattle.paged_mem.specs.Directory.{Directory, bytes_of, with_page, pages_of, IsShaped, Reserves, Writes}
 use borrow.Rule.Slice.PartMut.{put_mid}
 use Rattle.paged_mem.proofs.Zeros.{slice_index-replicate}
-use Rattle.paged_mem.proofs.Overlaid.{overlaid-put_mid, length-put_mid}
+use Rattle.paged_mem.proofs.Overlaid.{overlaid-none, overlaid-put_mid, length-put_mid}
 use Rattle.paged_mem.proofs.Pages.{Puts, puts_here, is_reserved-some, is_reserved-puts, byte_of-puts, byte_of-puts_zeros, reserved_before, reserved_after}
 use Rattle.paged_mem.proofs.Entries.{page_of-taken, page_of-absent, is_reserved-taken, leaf_taken, page_size, shaped-with_page, puts-with_page}
 
@@ -15,12 +15,7 @@ changed leaves number leaf new page found made =
     ap (set leaves (number / 1024)) (made ∙ ap (λ pages. set pages (number % 1024) (page (get_or pages (number % 1024) []))) found)
 
 -- a page that is written
-pub record Writes (leaves new : Directory) (number offset : ℕ) (content : List ℕ) : Type 0 where
-  pub shaped : IsShaped new
-  pub bytes : byte_of (pages_of new) ≡ overlaid (byte_of (pages_of leaves)) (4096 * number + offset) content
-  pub pages : is_reserved (pages_of new) ≡ is_reserved (pages_of leaves)
-
-writes_entry : (leaves : Directory) (number offset : ℕ) (bytes : List ℕ) → IsShaped leaves → offset + length bytes ≤ 4096 → 0 < length (bytes_of leaves number) → Writes leaves (with_page leaves number (put_mid offset (length bytes) (bytes_of leaves number) bytes)) number offset bytes
+writes_entry : (leaves : Directory) (number offset : ℕ) (bytes : List ℕ) → IsShaped leaves → offset + length bytes ≤ 4096 → 0 < length (bytes_of leaves number) → Writes leaves (with_page leaves number (put_mid offset (length bytes) (bytes_of leaves number) bytes)) (4096 * number + offset) bytes
 writes_entry leaves number offset bytes shaped fits taken =
     let before = bytes_of leaves number in
     let after = put_mid offset (length bytes) before bytes in
@@ -35,9 +30,13 @@ writes_entry leaves number offset bytes shaped fits taken =
       pages = is_reserved-puts (pages_of leaves) (pages_of (with_page leaves number after)) number after puts (is_reserved-taken leaves shaped number taken);
     }
 
-pub writes : (leaves : Directory) (number offset : ℕ) (bytes : List ℕ) (leaf new : List (List ℕ)) → IsShaped leaves → offset + length bytes ≤ 4096 → 0 < length (bytes_of leaves number) → leaf ≡ get_or leaves (number / 1024) [] → new ≡ set leaf (number % 1024) (put_mid offset (length bytes) (get_or leaf (number % 1024) []) bytes) → Writes leaves (set leaves (number / 1024) new) number offset bytes
+pub writes : (leaves : Directory) (number offset : ℕ) (bytes : List ℕ) (leaf new : List (List ℕ)) → IsShaped leaves → offset + length bytes ≤ 4096 → 0 < length (bytes_of leaves number) → leaf ≡ get_or leaves (number / 1024) [] → new ≡ set leaf (number % 1024) (put_mid offset (length bytes) (get_or leaf (number % 1024) []) bytes) → Writes leaves (set leaves (number / 1024) new) (4096 * number + offset) bytes
 writes leaves number offset bytes leaf new shaped fits taken found made =
     rw (changed leaves number leaf new (λ page. put_mid offset (length bytes) page bytes) found made) (writes_entry leaves number offset bytes shaped fits taken)
+
+-- nothing that is written
+pub writes_none : (leaves : Directory) (address : ℕ) (bytes : List ℕ) → IsShaped leaves → length bytes ≡ 0 → Writes leaves leaves address bytes
+writes_none leaves address bytes shaped none = record { bytes = sym (overlaid-none (byte_of (pages_of leaves)) address bytes none); pages = refl; shaped = shaped }
 
 -- a page of zeros that is taken
 

@@ -1,7 +1,7 @@
 -- The pages of a memory in two levels: a directory of 1,024 leaves, each of 1,024 pages of 4,096 bytes.
 -- What was never taken is empty: the directory, a leaf, a page.
 use Rattle.std.specs.Prelude.{◌≡◌, ℕ, ◌+◌, ◌/◌, ◌%◌, ◌<◌, ◌≤◌, ◌⊎◌, List, [], ◌∷◌, ◌++◌, length, get_or, set, slice_index}
-use Rattle.paged_mem.specs.Memory.{Pages, byte_of, IsReserved}
+use Rattle.paged_mem.specs.Memory.{Pages, is_reserved, byte_of, IsReserved, overlaid}
 
 -- by leaf, and by place in the leaf, the bytes of a page
 abbrev pub Directory : Type 0
@@ -44,6 +44,12 @@ pub record IsShaped (leaves : Directory) : Type 0 where
 -- each byte is 0 in the pages from one number on and below another
 abbrev pub IsZeroBetween : Directory → ℕ → ℕ → Type 0
 IsZeroBetween leaves from end = (n k : ℕ) → from ≤ n → n < end → slice_index (bytes_of leaves n) k ≡ 0
+
+-- bytes are written from an address on, and no page is reserved
+pub record Writes (old new : Directory) (address : ℕ) (content : List ℕ) : Type 0 where
+  pub bytes : byte_of (pages_of new) ≡ overlaid (byte_of (pages_of old)) address content
+  pub pages : is_reserved (pages_of new) ≡ is_reserved (pages_of old)
+  pub shaped : IsShaped new
 
 -- at most one more page is reserved, and no byte changes
 pub record Reserves (old new : Directory) (number : ℕ) : Type 0 where

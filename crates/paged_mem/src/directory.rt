@@ -1,7 +1,7 @@
 // Walks through the directory and its leaves, and what they take.
 ghost use Rattle.std.specs.Prelude.{◌≡◌, ℕ, ◌+◌, ◌*◌, ◌/◌, ◌%◌, ◌^◌, ◌<◌, ◌≤◌, [], length, get_or, slice_index, IfSome, IfNone, OnOk};
-ghost use Rattle.paged_mem.specs.Memory.{is_reserved, byte_of, IsReserved, IsRangeReserved, overlaid};
-ghost use Rattle.paged_mem.specs.Directory.{bytes_of, pages_of, IsShaped, IsZeroBetween, Reserves};
+ghost use Rattle.paged_mem.specs.Memory.{IsReserved, IsRangeReserved};
+ghost use Rattle.paged_mem.specs.Directory.{bytes_of, pages_of, IsShaped, IsZeroBetween, Reserves, Writes};
 
 use super::leaf::{ENTRIES, Leaf};
 use super::page::LENGTH;
@@ -95,10 +95,7 @@ pub fn write_page(leaves: &mut Vec<Leaf>, number: usize, offset: usize, bytes: &
     requires shaped { IsShaped leaves.old.items }
     requires fits { offset + length bytes.now ≤ 4096 }
     requires held { 0 < length bytes.now → IsReserved (pages_of leaves.old.items) number }
-    ensures shaped { IsShaped leaves.new.items }
-    ensures bytes { byte_of (pages_of leaves.new.items)
-        ≡ overlaid (byte_of (pages_of leaves.old.items)) (4096 * number + offset) bytes.now }
-    ensures pages { is_reserved (pages_of leaves.new.items) ≡ is_reserved (pages_of leaves.old.items) }
+    ensures { Writes leaves.old.items leaves.new.items (4096 * number + offset) bytes.now }
 {
     if !bytes.is_empty() {
         leaves[number / ENTRIES].write(number % ENTRIES, offset, bytes);
@@ -112,9 +109,7 @@ pub fn write_pages(leaves: &mut Vec<Leaf>, addr: usize, bytes: &[u8])
     requires shaped { IsShaped leaves.old.items }
     requires held { IsRangeReserved (pages_of leaves.old.items) addr (length bytes.now) }
     requires fits { addr + length bytes.now ≤ 2 ^ 32 }
-    ensures shaped { IsShaped leaves.new.items }
-    ensures bytes { byte_of (pages_of leaves.new.items) ≡ overlaid (byte_of (pages_of leaves.old.items)) addr bytes.now }
-    ensures pages { is_reserved (pages_of leaves.new.items) ≡ is_reserved (pages_of leaves.old.items) }
+    ensures { Writes leaves.old.items leaves.new.items addr bytes.now }
 {
     let mut at = addr;
     let mut rest = bytes;

@@ -57,13 +57,7 @@ impl PagedMem {
         requires { addr + 2 ≤ 2 ^ 32 }
         ensures { result ≡ byte_of self.now addr ∷ byte_of self.now (addr + 1) ∷ [] }
     {
-        let page = self.page_at(addr / PAGE_SIZE);
-        let at = offset_of(addr);
-        if at + 2 <= page.len() {
-            [page[at], page[at + 1]]
-        } else {
-            self.half_by_bytes(addr).to_le_bytes()
-        }
+        self.half_number(addr).to_le_bytes()
     }
 
     /// The bytes of the four addresses from `addr` on.
@@ -72,13 +66,7 @@ impl PagedMem {
         ensures { result ≡ byte_of self.now addr ∷ byte_of self.now (addr + 1)
             ∷ byte_of self.now (addr + 2) ∷ byte_of self.now (addr + 3) ∷ [] }
     {
-        let page = self.page_at(addr / PAGE_SIZE);
-        let at = offset_of(addr);
-        if at + 4 <= page.len() {
-            [page[at], page[at + 1], page[at + 2], page[at + 3]]
-        } else {
-            self.word_by_bytes(addr).to_le_bytes()
-        }
+        self.word_number(addr).to_le_bytes()
     }
 
     /// Reserves the pages that the `len` addresses from `addr` on meet. No byte changes. Where
@@ -204,8 +192,36 @@ impl PagedMem {
         }
     }
 
-    // A half that may lie in two pages. It is handed on as a number, since an array would go through
-    // memory.
+    // A half with the lowest address's byte last. A number stays in a register where an array doesn't.
+    fn half_number(&self, addr: u32) -> u16
+        requires { addr + 2 ≤ 2 ^ 32 }
+        ensures { to_le_bytes w16 result ≡ byte_of self.now addr ∷ byte_of self.now (addr + 1) ∷ [] }
+    {
+        let page = self.page_at(addr / PAGE_SIZE);
+        let at = offset_of(addr);
+        if at + 2 <= page.len() {
+            u16::from_le_bytes([page[at], page[at + 1]])
+        } else {
+            self.half_by_bytes(addr)
+        }
+    }
+
+    // A word in the same form.
+    fn word_number(&self, addr: u32) -> u32
+        requires { addr + 4 ≤ 2 ^ 32 }
+        ensures { to_le_bytes w32 result ≡ byte_of self.now addr ∷ byte_of self.now (addr + 1)
+            ∷ byte_of self.now (addr + 2) ∷ byte_of self.now (addr + 3) ∷ [] }
+    {
+        let page = self.page_at(addr / PAGE_SIZE);
+        let at = offset_of(addr);
+        if at + 4 <= page.len() {
+            u32::from_le_bytes([page[at], page[at + 1], page[at + 2], page[at + 3]])
+        } else {
+            self.word_by_bytes(addr)
+        }
+    }
+
+    // A half that may lie in two pages.
     #[cold]
     #[inline(never)]
     fn half_by_bytes(&self, addr: u32) -> u16
@@ -215,7 +231,7 @@ impl PagedMem {
         u16::from_le_bytes([self.byte(addr), self.byte(addr + 1)])
     }
 
-    // A word that may lie in two pages, as a number too.
+    // A word that may lie in two pages.
     #[cold]
     #[inline(never)]
     fn word_by_bytes(&self, addr: u32) -> u32

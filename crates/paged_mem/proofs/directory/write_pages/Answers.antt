@@ -19,5 +19,7 @@ loop-rest-preserved c =
       writing = writing_next _ _ _ _ _ _ _ _ _ c.loop-rest.invariant.writing parts c.write_page.ensures.bytes c.write_page.ensures.pages;
     }
 
-pub returns-clause-bytes : goal.returns-clause-bytes
-returns-clause-bytes c = writing_end _ _ _ _ _ _ c.loop-rest.invariant.writing (search rules)
+pub returns : goal.returns
+returns c =
+    let w = c.loop-rest.invariant.writing in
+    record { bytes = writing_end _ _ _ _ _ _ w (search rules); pages = w.pages; shaped = c.loop-rest.invariant.shaped }
