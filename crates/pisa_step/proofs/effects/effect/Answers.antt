@@ -1,7 +1,7 @@
-use Rattle.std.proofs.Common.{◌∙◌, ap, sym, subst, arith, IfOk}
+use Rattle.std.proofs.Common.{sym, subst, arith, IfOk}
 use Rattle.pisa_isa.specs.CodingLaws.{bounds}
 use Rattle.pisa_step.specs.Actions.{action_of}
-use Rattle.pisa_step.specs.Effect.{AreRegisters, TakesPair, effect_of, outcome_of}
+use Rattle.pisa_step.specs.Effect.{AreRegisters, effect_of}
 use Rattle.pisa_step.specs.Proper.{IsProper}
 use Rattle.pisa_isa.specs.declared.instr.Instr.{Instr}
 use Rattle.pisa_isa.specs.Coding.{IsWellFormed}
