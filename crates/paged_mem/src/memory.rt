@@ -1,4 +1,4 @@
-ghost use Rattle.std.specs.Prelude.{◌≡◌, ℕ, ◌+◌, ◌*◌, ◌/◌, ◌^◌, ◌<◌, ◌≤◌, ◌⊎◌, ◌↔◌, Bool, false, length, slice_index, is_some, IsTrue, IfSome, IfNone, IfOk, OnOk};
+ghost use Rattle.std.specs.Prelude.{◌≡◌, ℕ, ◌+◌, ◌*◌, ◌/◌, ◌^◌, ◌<◌, ◌≤◌, ◌⊎◌, ◌↔◌, Bool, false, [], ◌∷◌, length, slice_index, is_some, IsTrue, IfSome, IfNone, IfOk, OnOk};
 ghost use Rattle.std.specs.Bool.{OnFalse};
 ghost use Rattle.std.specs.Ordering.{nat_cmp};
 ghost use Rattle.paged_mem.specs.Memory.{page_of, is_reserved, byte_of, IsReserved, Meets, IsRangeReserved, MeetsUnreserved, overlaid, IsZeroPage, HasByte};
@@ -48,6 +48,28 @@ impl PagedMem {
             Some(page) => page.byte((addr % PAGE_SIZE) as usize),
             None => 0,
         }
+    }
+
+    /// The bytes of the two addresses from `addr` on.
+    pub fn half_bytes(&self, addr: u32) -> [u8; 2]
+        requires { addr + 2 ≤ 2 ^ 32 }
+        ensures { result ≡ byte_of self.now addr ∷ byte_of self.now (addr + 1) ∷ [] }
+    {
+        [self.byte(addr), self.byte(addr + 1)]
+    }
+
+    /// The bytes of the four addresses from `addr` on.
+    pub fn word_bytes(&self, addr: u32) -> [u8; 4]
+        requires { addr + 4 ≤ 2 ^ 32 }
+        ensures { result ≡ byte_of self.now addr ∷ byte_of self.now (addr + 1)
+            ∷ byte_of self.now (addr + 2) ∷ byte_of self.now (addr + 3) ∷ [] }
+    {
+        [
+            self.byte(addr),
+            self.byte(addr + 1),
+            self.byte(addr + 2),
+            self.byte(addr + 3),
+        ]
     }
 
     /// Reserves the pages that the `len` addresses from `addr` on meet. No byte changes. Where
