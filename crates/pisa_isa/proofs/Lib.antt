@@ -1,3 +1,2 @@
 pub mod LookupTable
-pub mod Rows
 pub mod TargetWords

@@ -1,13 +1,12 @@
 -- The table of instructions: for each operation its printed name, its opcode, its operands, the
 -- functional unit that it takes, and what it does with its operands.
-use Rattle.std.specs.Prelude.{◌≡◌, ℕ, List, [], ◌∷◌, codes}
+use Rattle.std.specs.Prelude.{ℕ, List, [], ◌∷◌, codes}
 use Rattle.pisa_isa.specs.declared.instr.Op.{Op}
 use Rattle.pisa_isa.specs.declared.instr.Op.TheVariants as op
 use Rattle.pisa_isa.specs.declared.table.Operands.{Operands}
 use Rattle.pisa_isa.specs.declared.table.Operands.TheVariants as form
 use Rattle.pisa_isa.specs.declared.table.Kind.{Kind}
 use Rattle.pisa_isa.specs.declared.table.Kind.TheVariants as kind
-use Rattle.pisa_isa.specs.declared.table.Row.{Row as CodeRow}
 use Rattle.pisa_isa.specs.declared.classes.UnitClass.{UnitClass}
 use Rattle.pisa_isa.specs.declared.classes.UnitClass.TheVariants as unit
 
@@ -152,15 +151,3 @@ all_ops =
     op.CLeD ∷ op.FsqrtS ∷ op.FsqrtD ∷ op.Syscall ∷ op.Break ∷ op.Lui ∷ op.Mfc1 ∷ op.Dmfc1 ∷
     op.Cfc1 ∷ op.Mtc1 ∷ op.Dmtc1 ∷ op.Ctc1 ∷ op.LbRr ∷ op.LbuRr ∷ op.LhRr ∷ op.LhuRr ∷ op.LwRr ∷
     op.LSRr ∷ op.SbRr ∷ op.ShRr ∷ op.SwRr ∷ op.DlwRr ∷ op.LDRr ∷ op.DswRr ∷ op.DszRr ∷ []
-
--- what a row of the code's table says
-abbrev pub said : CodeRow → Row
-said held = line held.name.now held.number held.operands held.unit held.kind
-
--- a row of the code's table says what this row says
-pub record IsRow (held : CodeRow) (said : Row) : Type 0 where
-  pub name : held.name.now ≡ said.name
-  pub number : held.number ≡ said.number
-  pub operands : held.operands ≡ said.operands
-  pub unit : held.unit ≡ said.unit
-  pub kind : held.kind ≡ said.kind

@@ -5,7 +5,7 @@ ghost use Rattle.pisa_isa.specs.Coding.{number_of};
 ghost use Rattle.pisa_isa.specs.Texts.{name_of};
 
 use crate::instr::{Instr, Op};
-use crate::table::{Kind, Operands, Row};
+use crate::table::{Kind, Operands, name_of, number_of};
 use arrayvec::ArrayString;
 
 /// The functional unit that an operation takes.
@@ -77,35 +77,35 @@ impl Kind {
 pub fn unit(op: Op) -> UnitClass
     ensures { result ≡ unit_of op }
 {
-    Row::of(op).unit
+    UnitClass::of(op)
 }
 
 /// How an operation reaches memory.
 pub fn access(op: Op) -> AccessKind
     ensures { result ≡ access_of op }
 {
-    Row::of(op).kind.access()
+    Kind::of(op).access()
 }
 
 /// How an instruction directs control: JR of register 31 is a return, of any other a jump.
 pub fn control(i: &Instr) -> ControlKind
     ensures { result ≡ control_of i.now }
 {
-    Row::of(i.op).kind.control(i.rs)
+    Kind::of(i.op).control(i.rs)
 }
 
 /// Whether an operation is one of floating point.
 pub fn is_float(op: Op) -> bool
     ensures { result ≡ is_float_op op }
 {
-    matches!(Row::of(op).kind, Kind::Float)
+    matches!(Kind::of(op), Kind::Float)
 }
 
 /// The operands of an operation in assembly text. Those of floating point have none.
 pub fn operands(op: Op) -> Operands
     ensures { result ≡ operands_of op }
 {
-    Row::of(op).operands
+    Operands::of(op)
 }
 
 /// The printed name of an operation, in capitals, as `LB_RR`.
@@ -113,7 +113,7 @@ pub fn name(op: Op) -> ArrayString<8>
     ensures { result.bytes ≡ name_of op }
 {
     let mut text = ArrayString::new();
-    text.push_str(Row::of(op).name);
+    text.push_str(name_of(op));
     text
 }
 
@@ -121,5 +121,5 @@ pub fn name(op: Op) -> ArrayString<8>
 pub fn number(op: Op) -> u16
     ensures { result ≡ number_of op }
 {
-    Row::of(op).number
+    number_of(op)
 }

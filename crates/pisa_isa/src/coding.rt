@@ -7,7 +7,7 @@ ghost use Rattle.pisa_isa.specs.Coding.{Codes, Decodes, Finds, IsInRange, IsWell
 use crate::fields::{Fields, is_in_range, used_or_zero};
 use crate::instr::{Illegal, IllegalWhy, Instr, Op};
 use crate::lookup::operation;
-use crate::table::Row;
+use crate::table::{Kind, Operands, number_of};
 
 impl Instr {
     /// Whether each field that the operation uses is in its range, and each other field is 0.
@@ -17,10 +17,13 @@ impl Instr {
     pub fn well_formed(&self) -> bool
         ensures { IsTrue result ↔ IsWellFormed self.now }
     {
-        let row = Row::of(self.op);
-        let fields = row.operands.fields();
+        let fields = Operands::of(self.op).fields();
         let rs = is_in_range(fields.rs, 31, self.rs as u32);
-        let rt = is_in_range(fields.rt, row.kind.highest_rt() as u32, self.rt as u32);
+        let rt = is_in_range(
+            fields.rt,
+            Kind::of(self.op).highest_rt() as u32,
+            self.rt as u32,
+        );
         let rd = is_in_range(fields.rd, 31, self.rd as u32);
         let shamt = is_in_range(fields.shamt, 31, self.shamt as u32);
         let imm = is_in_range(fields.imm, 0xffff, self.imm as u32);
@@ -113,9 +116,8 @@ pub fn decode(first: u32, second: u32) -> Result<Instr, Illegal>
             why: IllegalWhy::Opcode,
         });
     };
-    let row = Row::of(op);
-    let i = unchecked(op, row.operands.fields(), second);
-    match check_ranges(&i, row.kind.highest_rt()) {
+    let i = unchecked(op, Operands::of(op).fields(), second);
+    match check_ranges(&i, Kind::of(op).highest_rt()) {
         Ok(()) => Ok(i),
         Err(why) => Err(Illegal { opcode, why }),
     }
@@ -141,5 +143,5 @@ pub fn encode(i: &Instr) -> (u32, u32)
     ensures coding { Codes result.0 result.1 i.now }
     ensures round_trip { decoded result.0 result.1 ≡ Some i.now }
 {
-    (Row::of(i.op).number as u32, joined_fields(i))
+    (number_of(i.op) as u32, joined_fields(i))
 }

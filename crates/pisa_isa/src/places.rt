@@ -8,7 +8,7 @@ ghost use Rattle.pisa_isa.specs.declared.places.Place.TheVariants as variants;
 
 use crate::fields::{Fields, used_or_zero};
 use crate::instr::Instr;
-use crate::table::{Kind, Row};
+use crate::table::{Kind, Operands};
 use arrayvec::ArrayVec;
 
 /// A place of the register state that an instruction reads or writes.
@@ -230,12 +230,11 @@ fn sources(i: &Instr, fields: Fields, written: Group, late: Group) -> ArrayVec<P
 pub fn reads_main(i: &Instr) -> ArrayVec<Place, 3>
     ensures { result.items ≡ reads_main_of i.now }
 {
-    let row = Row::of(i.op);
-    match row.kind {
+    match Kind::of(i.op) {
         Kind::FromHi => one_of_three(Place::Hi),
         Kind::FromLo => one_of_three(Place::Lo),
         kind => {
-            let fields = row.operands.fields();
+            let fields = Operands::of(i.op).fields();
             sources(i, fields, kind.destination(fields.rd), kind.late_source())
         }
     }
@@ -247,7 +246,7 @@ pub fn reads_second(i: &Instr) -> ArrayVec<Place, 2>
     requires { IsWellFormed i.now }
     ensures { result.items ≡ reads_second_of i.now }
 {
-    Row::of(i.op).kind.late_source().members(i)
+    Kind::of(i.op).late_source().members(i)
 }
 
 /// The places that an instruction writes, a pair in rising order and HI before LO. Register 0
@@ -256,6 +255,6 @@ pub fn writes(i: &Instr) -> ArrayVec<Place, 2>
     requires { IsWellFormed i.now }
     ensures { result.items ≡ writes_of i.now }
 {
-    let row = Row::of(i.op);
-    row.kind.destination(row.operands.fields().rd).members(i)
+    let has_rd = Operands::of(i.op).fields().rd;
+    Kind::of(i.op).destination(has_rd).members(i)
 }

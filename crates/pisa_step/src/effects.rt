@@ -3,6 +3,7 @@ ghost use Rattle.std.specs.Prelude.{◌≡◌, ◌≢◌, ◌+◌, ◌-◌, ◌%
 ghost use Rattle.pisa_step.specs.Proper.{IsProper};
 ghost use Rattle.pisa_isa.specs.Coding.{IsWellFormed};
 ghost use Rattle.pisa_isa.specs.Targets.{branch_target, jump_target};
+ghost use Rattle.pisa_step.specs.Actions.{action_of};
 ghost use Rattle.pisa_step.specs.Arithmetic.{first_of, second_of, target_of, exact_of, alu_of, is_taken};
 ghost use Rattle.pisa_step.specs.Memory.{address_of};
 ghost use Rattle.pisa_step.specs.Effect.{AreRegisters, TakesPair, branches, divides, effect_of, exactly, going_on, jumps, linked, load_at, load_pair_at, load_part_at, loads, moves_from, moves_to, multiplies, outcome_of, store_at, store_part_at, stores, vec_of, writes_reg, written};
@@ -28,10 +29,144 @@ pub fn effect<M: Machine>(m: &M, i: &Instr, pc: u32, text: TextRange) -> Result<
     ensures value { result ≡ effect_of (M.reads m.now) i.now pc text }
     ensures proper { IfOk result (IsProper text) }
 {
-    outcome(Action::of(i.op), m, i, pc, text)
+    by_operation(m, i, pc, text)
+}
+
+/// One match on the operation, in which each arm knows its action.
+macro_rules! outcomes {
+    ($m:ident, $i:ident, $pc:ident, $text:ident; $(Op::$op:ident => $action:expr,)*) => {
+        match $i.op {
+            $(Op::$op => outcome($action, $m, $i, $pc, $text),)*
+        }
+    };
+}
+
+/// What an operation does. A system call has no effect here, and stands with NOP.
+fn by_operation<M: Machine>(m: &M, i: &Instr, pc: u32, text: TextRange) -> Result<Changes, Cause>
+    requires registers { AreRegisters i.now }
+    requires target { i.now.target < 2 ^ 26 }
+    requires pair { TakesPair (action_of i.now.op) → i.now.rt < 31 }
+    ensures { result ≡ outcome_of (action_of i.now.op) (M.reads m.now) i.now pc text }
+{
+    outcomes! { m, i, pc, text;
+        Op::Nop => Action::Nothing,
+        Op::J => Action::Jump(Link::Absent),
+        Op::Jal => Action::Jump(Link::Kept),
+        Op::Jr => Action::JumpRegister(Link::Absent),
+        Op::Jalr => Action::JumpRegister(Link::Kept),
+        Op::Beq => Action::Branch(Condition::Equal),
+        Op::Bne => Action::Branch(Condition::NotEqual),
+        Op::Blez => Action::Branch(Condition::AtMostZero),
+        Op::Bgtz => Action::Branch(Condition::AboveZero),
+        Op::Bltz => Action::Branch(Condition::BelowZero),
+        Op::Bgez => Action::Branch(Condition::AtLeastZero),
+        Op::Bc1f => Action::Float,
+        Op::Bc1t => Action::Float,
+        Op::Lb => Action::Load(Loaded::Byte, Address::Offset),
+        Op::Lbu => Action::Load(Loaded::ByteUnsigned, Address::Offset),
+        Op::Lh => Action::Load(Loaded::Half, Address::Offset),
+        Op::Lhu => Action::Load(Loaded::HalfUnsigned, Address::Offset),
+        Op::Lw => Action::Load(Loaded::Word, Address::Offset),
+        Op::Dlw => Action::LoadPair(Address::Offset),
+        Op::LS => Action::Float,
+        Op::LD => Action::Float,
+        Op::Lwl => Action::LoadPart(Side::Left),
+        Op::Lwr => Action::LoadPart(Side::Right),
+        Op::Sb => Action::Store(Stored::Byte, Address::Offset),
+        Op::Sh => Action::Store(Stored::Half, Address::Offset),
+        Op::Sw => Action::Store(Stored::Word, Address::Offset),
+        Op::Dsw => Action::Store(Stored::Pair, Address::Offset),
+        Op::SS => Action::Float,
+        Op::SD => Action::Float,
+        Op::Dsz => Action::Store(Stored::Zero, Address::Offset),
+        Op::Swl => Action::StorePart(Side::Left),
+        Op::Swr => Action::StorePart(Side::Right),
+        Op::Add => Action::Exact(Exact::Add, Form::Registers),
+        Op::Addi => Action::Exact(Exact::Add, Form::Signed),
+        Op::Addu => Action::Compute(Alu::Add, Form::Registers),
+        Op::Addiu => Action::Compute(Alu::Add, Form::Signed),
+        Op::Sub => Action::Exact(Exact::Subtract, Form::Registers),
+        Op::Subu => Action::Compute(Alu::Subtract, Form::Registers),
+        Op::Mult => Action::Multiply(Sign::Signed),
+        Op::Multu => Action::Multiply(Sign::Unsigned),
+        Op::Div => Action::Divide(Sign::Signed),
+        Op::Divu => Action::Divide(Sign::Unsigned),
+        Op::Mfhi => Action::MoveFrom(Half::High),
+        Op::Mthi => Action::MoveTo(Half::High),
+        Op::Mflo => Action::MoveFrom(Half::Low),
+        Op::Mtlo => Action::MoveTo(Half::Low),
+        Op::And => Action::Compute(Alu::And, Form::Registers),
+        Op::Andi => Action::Compute(Alu::And, Form::Unsigned),
+        Op::Or => Action::Compute(Alu::Or, Form::Registers),
+        Op::Ori => Action::Compute(Alu::Or, Form::Unsigned),
+        Op::Xor => Action::Compute(Alu::Xor, Form::Registers),
+        Op::Xori => Action::Compute(Alu::Xor, Form::Unsigned),
+        Op::Nor => Action::Compute(Alu::Nor, Form::Registers),
+        Op::Sll => Action::Compute(Alu::ShiftLeft, Form::Shift),
+        Op::Sllv => Action::Compute(Alu::ShiftLeft, Form::ShiftRegister),
+        Op::Srl => Action::Compute(Alu::ShiftRight, Form::Shift),
+        Op::Srlv => Action::Compute(Alu::ShiftRight, Form::ShiftRegister),
+        Op::Sra => Action::Compute(Alu::ShiftRightSigned, Form::Shift),
+        Op::Srav => Action::Compute(Alu::ShiftRightSigned, Form::ShiftRegister),
+        Op::Slt => Action::Compute(Alu::Less, Form::Registers),
+        Op::Slti => Action::Compute(Alu::Less, Form::Signed),
+        Op::Sltu => Action::Compute(Alu::LessUnsigned, Form::Registers),
+        Op::Sltiu => Action::Compute(Alu::LessUnsigned, Form::Signed),
+        Op::AddS => Action::Float,
+        Op::AddD => Action::Float,
+        Op::SubS => Action::Float,
+        Op::SubD => Action::Float,
+        Op::MulS => Action::Float,
+        Op::MulD => Action::Float,
+        Op::DivS => Action::Float,
+        Op::DivD => Action::Float,
+        Op::AbsS => Action::Float,
+        Op::AbsD => Action::Float,
+        Op::FmovS => Action::Float,
+        Op::FmovD => Action::Float,
+        Op::FnegS => Action::Float,
+        Op::FnegD => Action::Float,
+        Op::CvtSD => Action::Float,
+        Op::CvtSW => Action::Float,
+        Op::CvtDS => Action::Float,
+        Op::CvtDW => Action::Float,
+        Op::CvtWS => Action::Float,
+        Op::CvtWD => Action::Float,
+        Op::CEqS => Action::Float,
+        Op::CEqD => Action::Float,
+        Op::CLtS => Action::Float,
+        Op::CLtD => Action::Float,
+        Op::CLeS => Action::Float,
+        Op::CLeD => Action::Float,
+        Op::FsqrtS => Action::Float,
+        Op::FsqrtD => Action::Float,
+        Op::Syscall => Action::Nothing,
+        Op::Break => Action::Break,
+        Op::Lui => Action::Compute(Alu::Upper, Form::Unsigned),
+        Op::Mfc1 => Action::Float,
+        Op::Dmfc1 => Action::Float,
+        Op::Cfc1 => Action::Float,
+        Op::Mtc1 => Action::Float,
+        Op::Dmtc1 => Action::Float,
+        Op::Ctc1 => Action::Float,
+        Op::LbRr => Action::Load(Loaded::Byte, Address::Indexed),
+        Op::LbuRr => Action::Load(Loaded::ByteUnsigned, Address::Indexed),
+        Op::LhRr => Action::Load(Loaded::Half, Address::Indexed),
+        Op::LhuRr => Action::Load(Loaded::HalfUnsigned, Address::Indexed),
+        Op::LwRr => Action::Load(Loaded::Word, Address::Indexed),
+        Op::LSRr => Action::Float,
+        Op::SbRr => Action::Store(Stored::Byte, Address::Indexed),
+        Op::ShRr => Action::Store(Stored::Half, Address::Indexed),
+        Op::SwRr => Action::Store(Stored::Word, Address::Indexed),
+        Op::DlwRr => Action::LoadPair(Address::Indexed),
+        Op::LDRr => Action::Float,
+        Op::DswRr => Action::Store(Stored::Pair, Address::Indexed),
+        Op::DszRr => Action::Store(Stored::Zero, Address::Indexed),
+    }
 }
 
 /// What an action does.
+#[inline(always)]
 fn outcome<M: Machine>(
     action: Action,
     m: &M,

@@ -3,4 +3,4 @@ use Rattle.pisa_isa.specs.Numbers.{name_fits}
 use Rattle.pisa_isa.proofs.classes.name.Goals as goal
 
 pub push_str-requires : goal.push_str-requires
-push_str-requires c = (lit< tt, omega (arith, name_fits c.args.op, ap length c.of.ensures.name, ap length c.new-text.ensures))
+push_str-requires c = (lit< tt, omega (arith, name_fits c.args.op, ap length c.name_of.ensures, ap length c.new-text.ensures))

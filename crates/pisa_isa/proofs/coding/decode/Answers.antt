@@ -28,3 +28,6 @@ returns-in-Err-clause-coding c =
 pub returns-in-Err-clause-value : goal.returns-in-Err-clause-value
 returns-in-Err-clause-value c =
     sym (reason_decoded c.args.first c.args.second c.in-Err.why (returns-in-Err-clause-coding c).why)
+
+pub returns-in-Ok-clause-well_formed : goal.returns-in-Ok-clause-well_formed
+returns-in-Ok-clause-well_formed c = (returns-in-Ok-clause-coding c).well_formed

@@ -5,8 +5,8 @@ use Rattle.pisa_isa.proofs.coding.encode.Goals as goal
 
 pub returns-clause-coding : goal.returns-clause-coding
 returns-clause-coding c =
-    subst (λ second. Codes c.of.result.now.number second c.args.i.now) (sym c.joined_fields.ensures) (word_codes c.args.i.now c.of.result.now.number c.requires c.of.ensures.number)
+    subst (λ second. Codes c.number_of.result second c.args.i.now) (sym c.joined_fields.ensures) (word_codes c.args.i.now c.number_of.result c.requires c.number_of.ensures)
 
 pub returns-clause-round_trip : goal.returns-clause-round_trip
 returns-clause-round_trip c =
-    ap (decoded c.of.result.now.number) c.joined_fields.ensures ∙ codes_decoded _ _ c.args.i.now (word_codes c.args.i.now c.of.result.now.number c.requires c.of.ensures.number)
+    ap (decoded c.number_of.result) c.joined_fields.ensures ∙ codes_decoded _ _ c.args.i.now (word_codes c.args.i.now c.number_of.result c.requires c.number_of.ensures)

@@ -1,5 +1,6 @@
 use Rattle.std.proofs.Common.{◌∙◌, ap, sym, subst, arith, IfOk}
 use Rattle.pisa_isa.specs.CodingLaws.{bounds}
+use Rattle.pisa_step.specs.Actions.{action_of}
 use Rattle.pisa_step.specs.Effect.{AreRegisters, TakesPair, effect_of, outcome_of}
 use Rattle.pisa_step.specs.Proper.{IsProper}
 use Rattle.pisa_isa.specs.declared.instr.Instr.{Instr}
@@ -15,19 +16,16 @@ registers i formed = let b = bounds i formed in record {
   rd = omega (arith, b.rd);
 }
 
-pub outcome-requires-clause-pair : goal.outcome-requires-clause-pair
-outcome-requires-clause-pair g c =
-    λ takes. pair_below c.args.i.now c.requires.well_formed (subst TakesPair c.of.ensures takes)
+pub by_operation-requires-clause-pair : goal.by_operation-requires-clause-pair
+by_operation-requires-clause-pair g c = pair_below c.args.i.now c.requires.well_formed
 
 pub returns-clause-value : goal.returns-clause-value
 unfolding effect_of
-returns-clause-value g c =
-    c.outcome.ensures
-    ∙ ap (λ a. outcome_of a (g.M.Machine.reads c.args.m.now) c.args.i.now c.args.pc c.args.text) c.of.ensures
+returns-clause-value g c = c.by_operation.ensures
 
 pub returns-clause-proper : goal.returns-clause-proper
 returns-clause-proper g c =
-    subst (λ r. IfOk r (IsProper c.args.text)) (sym c.outcome.ensures)
-    (outcome_proper c.of.result (g.M.Machine.reads c.args.m.now) c.args.i.now c.args.pc c.args.text
+    subst (λ r. IfOk r (IsProper c.args.text)) (sym c.by_operation.ensures)
+    (outcome_proper (action_of c.args.i.now.op) (g.M.Machine.reads c.args.m.now) c.args.i.now c.args.pc c.args.text
     (registers c.args.i.now c.requires.well_formed)
-    (λ takes. pair_below c.args.i.now c.requires.well_formed (subst TakesPair c.of.ensures takes)))
+    (pair_below c.args.i.now c.requires.well_formed))
