@@ -1,3 +1,6 @@
+pub mod Entries
+pub mod Changes
+pub mod Taking
 pub mod Overlaid
 pub mod Pages
 pub mod Scan

@@ -1,8 +1,9 @@
 -- Bytes by address after a write.
-use Rattle.std.proofs.Common.{◌≡◌, ℕ, ◌+◌, ◌-◌, ◌<◌, ◌≤◌, ◌⊎◌, List, ◌++◌, length, slice_index, refl, sym, ◌∙◌, ap, inl, inr, arith, length-append}
+use Rattle.std.proofs.Common.{◌≡◌, ℕ, ◌+◌, ◌-◌, ◌<◌, ◌≤◌, ◌⊎◌, List, ◌++◌, length, slice_index, take, drop, refl, sym, ◌∙◌, ap, inl, inr, arith, length-append, length-drop}
 use mathlib.Core.Path.{fun_ext}
 use Rattle.std.proofs.lemmas.Bool.{cases_lt, lt-ltb, le-ltb}
-use Rattle.std.proofs.lemmas.List.{get_or_append_left, get_or-append-add}
+use Rattle.std.proofs.lemmas.List.{get_or_append_left, get_or-append_right, get_or-append-add, get_or-take, get_or-drop, length-take-le}
+use borrow.Rule.Slice.PartMut.{put_mid, post_of}
 use Rattle.paged_mem.specs.Memory.{overlaid}
 
 -- before the written range
@@ -81,3 +82,38 @@ overlaid-moved f g by at bytes k e = each (where_lies at (length bytes) k)
         overlaid-in f at bytes k low high ∙ ap (slice_index bytes) place
         ∙ sym (overlaid-in g (by + at) bytes (by + k) (omega arith) (omega arith))
     each (inr (inr h)) = overlaid-past f at bytes k h ∙ e ∙ sym (overlaid-past g (by + at) bytes (by + k) (omega arith))
+
+-- bytes that replace a part of a page
+pub overlaid-put_mid : (page bytes : List ℕ) (offset k : ℕ) → offset + length bytes ≤ length page → slice_index (put_mid offset (length bytes) page bytes) k ≡ overlaid (slice_index page) offset bytes k
+overlaid-put_mid page bytes offset k fits = each (where_lies offset (length bytes) k)
+  where
+    post : List ℕ
+    post = post_of offset (length bytes) page
+
+    front : length (take offset page) ≡ offset
+    front = length-take-le offset page (omega arith)
+
+    each : (k < offset) ⊎ (((offset ≤ k) × (k < offset + length bytes)) ⊎ (offset + length bytes ≤ k)) → slice_index (put_mid offset (length bytes) page bytes) k ≡ overlaid (slice_index page) offset bytes k
+    each (inl h) =
+        get_or_append_left (take offset page) (bytes ++ post) 0 k (omega (arith, front))
+        ∙ get_or-take offset page k 0 h
+        ∙ sym (overlaid-before (slice_index page) offset bytes k h)
+    each (inr (inl h)) =
+        get_or-append_right (take offset page) (bytes ++ post) offset k 0 front h.0
+        ∙ get_or_append_left bytes post 0 (k - offset) (omega (arith, h.0, h.1))
+        ∙ sym (overlaid-in (slice_index page) offset bytes k h.0 h.1)
+    each (inr (inr h)) =
+        let place : offset + (length bytes + (k - offset - length bytes)) ≡ k = omega arith in
+        get_or-append_right (take offset page) (bytes ++ post) offset k 0 front (omega arith)
+        ∙ get_or-append_right bytes post (length bytes) (k - offset) 0 refl (omega arith)
+        ∙ get_or-drop (length bytes) (drop offset page) (k - offset - length bytes) 0
+        ∙ get_or-drop offset page (length bytes + (k - offset - length bytes)) 0
+        ∙ ap (slice_index page) place
+        ∙ sym (overlaid-past (slice_index page) offset bytes k h)
+
+pub length-put_mid : (page bytes : List ℕ) (offset : ℕ) → offset + length bytes ≤ length page → length (put_mid offset (length bytes) page bytes) ≡ length page
+length-put_mid page bytes offset fits =
+    let front : length (take offset page) ≡ offset = length-take-le offset page (omega arith) in
+    let back : length (drop (length bytes) (drop offset page)) ≡ length page - offset - length bytes = length-drop (length bytes) (drop offset page) ∙ ap (λ n. n - length bytes) (length-drop offset page) in
+    let whole : length (put_mid offset (length bytes) page bytes) ≡ length (take offset page) + length (bytes ++ drop (length bytes) (drop offset page)) = length-append (take offset page) (bytes ++ drop (length bytes) (drop offset page)) in
+    omega (arith, front, back, whole, length-append bytes (drop (length bytes) (drop offset page)))

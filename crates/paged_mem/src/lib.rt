@@ -7,6 +7,8 @@
 //! page numbers, and nothing else of it can be told.
 #![tactic(auto)]
 
+mod directory;
+mod leaf;
 mod memory;
 mod page;
 mod span;

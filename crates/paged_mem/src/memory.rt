@@ -1,30 +1,32 @@
-ghost use Rattle.std.specs.Prelude.{◌≡◌, ℕ, ◌+◌, ◌*◌, ◌/◌, ◌^◌, ◌<◌, ◌≤◌, ◌⊎◌, ◌↔◌, Bool, false, [], ◌∷◌, length, slice_index, is_some, IsTrue, IfSome, IfNone, IfOk, OnOk};
+ghost use Rattle.std.specs.Prelude.{◌≡◌, ℕ, ◌+◌, ◌*◌, ◌/◌, ◌%◌, ◌^◌, ◌<◌, ◌≤◌, ◌⊎◌, ◌↔◌, Bool, false, [], ◌∷◌, length, slice_index, is_some, IsTrue, nat_lt, IfSome, IfNone, IfOk, OnOk};
 ghost use Rattle.std.specs.Bool.{OnFalse};
-ghost use Rattle.std.specs.Ordering.{nat_cmp};
 ghost use Rattle.paged_mem.specs.Memory.{page_of, is_reserved, byte_of, IsReserved, Meets, IsRangeReserved, MeetsUnreserved, overlaid, IsZeroPage, HasByte};
+ghost use Rattle.paged_mem.specs.Directory.{IsEmptyOr};
 
-use super::page::{LENGTH, PAGE_SIZE, Page};
+use super::directory::{next_page, page_bytes, reserve_page, write_page, write_pages};
+use super::leaf::Leaf;
+use super::page::{LENGTH, PAGE_SIZE};
 use super::span::{Span, pages_met};
 use ss_base::OutOfMemory;
 use std::alloc::Global;
-use std::collections::BTreeMap;
 use std::marker::Model;
 
 /// A byte at each address below 2^32. Contracts see the reserved pages with their bytes.
 #[derive(Drop)]
 pub struct PagedMem {
-    pages: BTreeMap<u32, Page>,
+    directory: Vec<Leaf>,
     alloc: Global,
 }
 
 impl Model for PagedMem {
-    ghost use Rattle.paged_mem.specs.Memory.{Pages, IsInAddressSpace};
+    ghost use Rattle.paged_mem.specs.Memory.{Pages};
+    ghost use Rattle.paged_mem.specs.Directory.{pages_of, IsShaped};
 
     ghost Value = { Pages };
 
-    ghost view = { λ m. m.pages.entries };
+    ghost view = { λ m. pages_of m.directory.items };
 
-    ghost invariant = { λ m. IsInAddressSpace m.pages.entries };
+    ghost invariant = { λ m. IsShaped m.directory.items };
 }
 
 impl PagedMem {
@@ -35,7 +37,7 @@ impl PagedMem {
         ensures pages { is_reserved result ≡ (λ _. false) }
     {
         PagedMem {
-            pages: BTreeMap::new(alloc),
+            directory: Vec::new(alloc),
             alloc,
         }
     }
@@ -44,10 +46,9 @@ impl PagedMem {
     pub fn byte(&self, addr: u32) -> u8
         ensures { result ≡ byte_of self.now addr }
     {
-        match self.pages.get(&(addr / PAGE_SIZE)) {
-            Some(page) => page.byte((addr % PAGE_SIZE) as usize),
-            None => 0,
-        }
+        let page = self.page_at(addr / PAGE_SIZE);
+        let at = offset_of(addr);
+        if at < page.len() { page[at] } else { 0 }
     }
 
     /// The bytes of the two addresses from `addr` on.
@@ -55,7 +56,13 @@ impl PagedMem {
         requires { addr + 2 ≤ 2 ^ 32 }
         ensures { result ≡ byte_of self.now addr ∷ byte_of self.now (addr + 1) ∷ [] }
     {
-        [self.byte(addr), self.byte(addr + 1)]
+        let page = self.page_at(addr / PAGE_SIZE);
+        let at = offset_of(addr);
+        if at + 2 <= page.len() {
+            [page[at], page[at + 1]]
+        } else {
+            self.half_by_bytes(addr)
+        }
     }
 
     /// The bytes of the four addresses from `addr` on.
@@ -64,12 +71,13 @@ impl PagedMem {
         ensures { result ≡ byte_of self.now addr ∷ byte_of self.now (addr + 1)
             ∷ byte_of self.now (addr + 2) ∷ byte_of self.now (addr + 3) ∷ [] }
     {
-        [
-            self.byte(addr),
-            self.byte(addr + 1),
-            self.byte(addr + 2),
-            self.byte(addr + 3),
-        ]
+        let page = self.page_at(addr / PAGE_SIZE);
+        let at = offset_of(addr);
+        if at + 4 <= page.len() {
+            [page[at], page[at + 1], page[at + 2], page[at + 3]]
+        } else {
+            self.word_by_bytes(addr)
+        }
     }
 
     /// Reserves the pages that the `len` addresses from `addr` on meet. No byte changes. Where
@@ -97,7 +105,7 @@ impl PagedMem {
     {
         let Span { first, end } = pages_met(addr, len);
         for number in first..end {
-            if !self.pages.contains_key(&number) {
+            if !self.has_page(number) {
                 return false;
             }
         }
@@ -111,7 +119,17 @@ impl PagedMem {
         ensures bytes { byte_of self.new ≡ overlaid (byte_of self.old) addr bytes.now }
         ensures pages { is_reserved self.new ≡ is_reserved self.old }
     {
-        write_pages(&mut self.pages, addr as usize, bytes);
+        let offset = offset_of(addr);
+        if bytes.len() <= LENGTH - offset {
+            write_page(
+                &mut self.directory,
+                (addr / PAGE_SIZE) as usize,
+                offset,
+                bytes,
+            );
+        } else {
+            write_pages(&mut self.directory, addr as usize, bytes);
+        }
     }
 
     /// The least page number from `from` on of a page with a byte other than 0, or `None` where
@@ -121,12 +139,10 @@ impl PagedMem {
         ensures least { IfSome result (λ number. (n : ℕ) → from ≤ n → n < number → IsZeroPage self.now n) }
         ensures none { IfNone result ((n : ℕ) → from ≤ n → IsZeroPage self.now n) }
     {
-        for (&number, page) in self.pages.range(from..) {
-            if !page.is_zero() {
-                return Some(number);
-            }
+        match next_page(self.directory.as_slice(), from as usize) {
+            Some(number) => Some(number as u32),
+            None => None,
         }
-        None
     }
 
     /// The bytes of a page, or `None` where it was never reserved.
@@ -136,19 +152,17 @@ impl PagedMem {
         ensures bytes { IfSome result (λ bytes. (k : ℕ) → k < 4096
             → slice_index bytes.now k ≡ byte_of self.now (4096 * number + k)) }
     {
-        match self.pages.get(&number) {
-            Some(page) => Some(page.as_slice()),
-            None => None,
-        }
+        let bytes = self.page_at(number);
+        if bytes.is_empty() { None } else { Some(bytes) }
     }
 
     /// A memory with the same bytes and the same reserved pages.
     pub fn try_clone(&self) -> Result<PagedMem, OutOfMemory>
         ensures { IfOk result (λ clone. clone ≡ self.now) }
     {
-        let pages = self.pages.clone()?;
+        let directory = self.directory.clone()?;
         Ok(PagedMem {
-            pages,
+            directory,
             alloc: self.alloc,
         })
     }
@@ -159,8 +173,23 @@ impl PagedMem {
         ensures { ((a : ℕ) → a < 2 ^ 32 → byte_of self.now a ≡ byte_of other.now a)
             → byte_of self.now ≡ byte_of other.now }
     {
-        let _numbers = &self.pages;
-        let _others = &other.pages;
+        let _leaves = &self.directory;
+        let _others = &other.directory;
+    }
+
+    // The bytes of a page, none where it isn't reserved.
+    fn page_at(&self, number: u32) -> &[u8]
+        ensures size { IsEmptyOr 4096 result.now }
+        ensures held { is_reserved self.now number ≡ nat_lt 0 (length result.now) }
+        ensures bytes { (k : ℕ) → k < 4096 → slice_index result.now k ≡ byte_of self.now (4096 * number + k) }
+    {
+        page_bytes(self.directory.as_slice(), number as usize)
+    }
+
+    fn has_page(&self, number: u32) -> bool
+        ensures { result ≡ is_reserved self.now number }
+    {
+        !self.page_at(number).is_empty()
     }
 
     fn reserve_page(&mut self, number: u32) -> Result<(), OutOfMemory>
@@ -170,43 +199,42 @@ impl PagedMem {
         ensures only { (n : ℕ) → IsReserved self.new n → IsReserved self.old n ⊎ (n ≡ number) }
         ensures ok { OnOk result (IsReserved self.new number) }
     {
-        if self.pages.contains_key(&number) {
-            return Ok(());
+        match reserve_page(&mut self.directory, self.alloc, number as usize) {
+            Ok(()) => Ok(()),
+            Err(_) => Err(OutOfMemory),
         }
-        let page = Page::zeroed(self.alloc)?;
-        self.pages.insert(number, page)?;
-        Ok(())
+    }
+
+    // A half that may lie in two pages.
+    #[cold]
+    #[inline(never)]
+    fn half_by_bytes(&self, addr: u32) -> [u8; 2]
+        requires { addr + 2 ≤ 2 ^ 32 }
+        ensures { result ≡ byte_of self.now addr ∷ byte_of self.now (addr + 1) ∷ [] }
+    {
+        [self.byte(addr), self.byte(addr + 1)]
+    }
+
+    // A word that may lie in two pages.
+    #[cold]
+    #[inline(never)]
+    fn word_by_bytes(&self, addr: u32) -> [u8; 4]
+        requires { addr + 4 ≤ 2 ^ 32 }
+        ensures { result ≡ byte_of self.now addr ∷ byte_of self.now (addr + 1)
+            ∷ byte_of self.now (addr + 2) ∷ byte_of self.now (addr + 3) ∷ [] }
+    {
+        [
+            self.byte(addr),
+            self.byte(addr + 1),
+            self.byte(addr + 2),
+            self.byte(addr + 3),
+        ]
     }
 }
 
-// Writes bytes from an address on, page by page.
-fn write_pages(pages: &mut BTreeMap<u32, Page>, addr: usize, bytes: &[u8])
-    requires fits { addr + length bytes.now ≤ 2 ^ 32 }
-    requires held { IsRangeReserved pages.old.entries addr (length bytes.now) }
-    ensures bytes { byte_of pages.new.entries ≡ overlaid (byte_of pages.old.entries) addr bytes.now }
-    ensures pages { is_reserved pages.new.entries ≡ is_reserved pages.old.entries }
+// The place of an address in its page.
+fn offset_of(addr: u32) -> usize
+    ensures { result ≡ addr % 4096 }
 {
-    let mut at = addr;
-    let mut rest = bytes;
-    while !rest.is_empty() {
-        let offset = at % LENGTH;
-        let (here, later) = rest.split_at(rest.len().min(LENGTH - offset));
-        write_page(pages, (at / LENGTH) as u32, offset, here);
-        at += here.len();
-        rest = later;
-    }
-}
-
-// Writes bytes from an offset in a page on.
-fn write_page(pages: &mut BTreeMap<u32, Page>, number: u32, offset: usize, bytes: &[u8])
-    requires fits { offset + length bytes.now ≤ 4096 }
-    requires held { IsReserved pages.old.entries number }
-    ensures bytes { byte_of pages.new.entries
-        ≡ overlaid (byte_of pages.old.entries) (4096 * number + offset) bytes.now }
-    ensures pages { is_reserved pages.new.entries ≡ is_reserved pages.old.entries }
-{
-    match pages.get_mut(&number) {
-        Some(page) => page.write(offset, bytes),
-        None => unreachable!(),
-    }
+    (addr % PAGE_SIZE) as usize
 }

@@ -1,6 +1,6 @@
 // The bytes of one page.
-ghost use Rattle.std.specs.Prelude.{◌≡◌, ℕ, ◌+◌, ◌<◌, ◌≤◌, length, slice_index, IfOk, MatchBool};
-ghost use Rattle.paged_mem.specs.Memory.{overlaid};
+ghost use Rattle.std.specs.Prelude.{◌≡◌, ℕ, ◌+◌, ◌<◌, ◌≤◌, [], length, replicate, slice_index, IfOk, MatchBool};
+ghost use borrow.Rule.Slice.PartMut.{put_mid};
 
 use std::alloc::{AllocError, Global};
 use std::marker::Model;
@@ -11,51 +11,58 @@ pub const PAGE_SIZE: u32 = 4096;
 /// `PAGE_SIZE` as a length.
 pub const LENGTH: usize = PAGE_SIZE as usize;
 
-/// The bytes of a page. Contracts see them as a list.
-#[derive(Clone, Drop)]
+/// The bytes of a page, or none where it isn't reserved. Contracts see them as a list.
+#[derive(Drop)]
 pub struct Page {
     bytes: Vec<u8>,
 }
 
 impl Model for Page {
-    ghost use Rattle.std.specs.Prelude.{◌≡◌, List, ℕ, length};
+    ghost use Rattle.std.specs.Prelude.{List, ℕ};
 
     ghost Value = { List ℕ };
 
     ghost view = { λ p. p.bytes.items };
+}
 
-    ghost invariant = { λ p. length p.bytes.items ≡ 4096 };
+impl Clone for Page {
+    ghost is_clone = { λ page clone. clone ≡ page };
+
+    fn clone(&self) -> Result<Page, AllocError> {
+        let bytes = self.bytes.clone()?;
+        Ok(Page { bytes })
+    }
 }
 
 impl Page {
+    /// A page that isn't reserved.
+    pub fn absent(alloc: Global) -> Page
+        ensures { result ≡ [] }
+    {
+        Page {
+            bytes: Vec::new(alloc),
+        }
+    }
+
     /// A page of zeros.
     pub fn zeroed(alloc: Global) -> Result<Page, AllocError>
-        ensures { IfOk result (λ page. (k : ℕ) → slice_index page k ≡ 0) }
+        ensures { IfOk result (λ page. page ≡ replicate 4096 0) }
     {
         let bytes = vec![in alloc; 0; LENGTH]?;
         Ok(Page { bytes })
     }
 
-    /// The byte at an offset.
-    pub fn byte(&self, offset: usize) -> u8
-        requires { offset < 4096 }
-        ensures { result ≡ slice_index self.now offset }
-    {
-        self.bytes[offset]
-    }
-
     /// All the bytes.
     pub fn as_slice(&self) -> &[u8]
-        ensures value { result.now ≡ self.now }
-        ensures whole { length self.now ≡ 4096 }
+        ensures { result.now ≡ self.now }
     {
         self.bytes.as_slice()
     }
 
     /// Writes bytes from an offset on.
     pub fn write(&mut self, offset: usize, bytes: &[u8])
-        requires { offset + length bytes.now ≤ 4096 }
-        ensures { (k : ℕ) → slice_index self.new k ≡ overlaid (slice_index self.old) offset bytes.now k }
+        requires { offset + length bytes.now ≤ length self.old }
+        ensures { self.new ≡ put_mid offset (length bytes.now) self.old bytes.now }
     {
         self.bytes[offset..offset + bytes.len()].copy_from_slice(bytes);
     }
@@ -64,7 +71,7 @@ impl Page {
     pub fn is_zero(&self) -> bool
         ensures { MatchBool result
             ((k : ℕ) → slice_index self.now k ≡ 0)
-            ((k : ℕ) × (k < 4096) × (slice_index self.now k ≡ 0 → ⊥)) }
+            ((k : ℕ) × (k < length self.now) × (slice_index self.now k ≡ 0 → ⊥)) }
     {
         for byte in &self.bytes {
             if *byte != 0 {
