@@ -20,6 +20,7 @@ fn instruction_at(text: &Text, pc: u32) -> Option<Instr>
 }
 
 /// The instructions of a text, in order.
+#[tactic(auto, using(crate::proofs::Decoding::first_none, crate::proofs::Decoding::first_more, crate::proofs::Decoding::first_all))]
 pub(crate) fn decoded(alloc: Global, text: &Text) -> Result<Vec<Option<Instr>>, OutOfMemory>
     requires { IsText text.now }
     ensures { IfOk result (λ instrs. AreDecoded text.now instrs.items) }

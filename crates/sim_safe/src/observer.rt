@@ -99,6 +99,7 @@ impl Arch {
     }
 
     /// Does the same with a place for the record.
+    #[inline(always)]
     fn advance_with<O: Observer>(
         &mut self,
         trace: &Trace,

@@ -23,6 +23,7 @@ use ss_base::OutOfMemory;
 
 impl Arch {
     /// What stands at the next address: no instruction, words that code none, or an instruction.
+    #[inline(always)]
     fn next_decoded(&self) -> Option<&Option<Instr>>
         ensures { MatchOption result (fetch self.now.text self.now.pc ≡ None)
             (λ found. (words : ℕ × ℕ) × (fetch self.now.text self.now.pc ≡ Some words) × (found.now ≡ decoded words.0 words.1)) }
@@ -35,6 +36,7 @@ impl Arch {
     }
 
     /// The next instruction, or why there is none.
+    #[inline(always)]
     #[tactic(auto, unfolding(crate::specs::Step::step_of))]
     pub(crate) fn fetch(&self) -> Result<Instr, Cause>
         ensures step { MatchResult result
@@ -53,6 +55,7 @@ impl Arch {
     }
 
     /// Reserves the pages that an instruction writes, where they aren't reserved.
+    #[inline(always)]
     fn reserve_for(&mut self, e: &Changes) -> Result<(), OutOfMemory>
         requires { ForSome e.now.mem (λ w. w.addr + length w.bytes.items ≤ 2 ^ 32) }
         ensures state { state_of self.new ≡ state_of self.old }
@@ -67,6 +70,7 @@ impl Arch {
     }
 
     /// Makes the changes of an instruction, goes on behind it, and writes down what it did.
+    #[inline(always)]
     fn commit(&mut self, instr: Instr, e: Changes, record: &mut CommitRecord)
         requires count { self.old.icnt + 1 < 2 ^ 62 }
         requires proper { IsProper (range_of self.old.text) e }
@@ -93,6 +97,7 @@ impl Arch {
     }
 
     /// Does an instruction that is no system call, or nothing.
+    #[inline(always)]
     fn execute(&mut self, instr: Instr, record: &mut CommitRecord) -> Progress
         requires count { self.old.icnt + 1 < 2 ^ 62 }
         requires no_call { instr.op ≢ Op.Syscall }
@@ -133,6 +138,7 @@ impl Arch {
     }
 
     /// Does the next instruction over a trace and writes its record in place, or does nothing.
+    #[inline(always)]
     pub(crate) fn step_into(&mut self, trace: &Trace, record: &mut CommitRecord) -> Progress
         requires count { self.old.icnt + 1 < 2 ^ 62 }
         requires trace { IsRunTrace trace.now }
@@ -173,11 +179,12 @@ impl Arch {
 }
 
 /// Gives a vector these registers.
+#[inline(always)]
 fn set_registers(into: &mut ArrayVec<(u8, u32), 8>, registers: &[(u8, u32)])
     requires { length registers.now ≤ 8 }
     ensures { into.new ≡ vec_of registers.now }
 {
-    into.clear();
+    *into = ArrayVec::new();
     for item in registers {
         into.push(*item);
     }
