@@ -18,7 +18,7 @@ use crate::record::{CommitRecord, Progress, Stepped};
 use arrayvec::ArrayVec;
 use event_trace::Trace;
 use pisa_isa::{Instr, Op};
-use pisa_step::{Cause, Changes, apply, effect};
+use pisa_step::{Cause, Changes, MemWrite, apply, effect};
 use ss_base::OutOfMemory;
 
 impl Arch {
@@ -71,16 +71,16 @@ impl Arch {
 
     /// Makes the changes of an instruction, goes on behind it, and writes down what it did.
     #[inline(always)]
-    fn commit(&mut self, instr: Instr, e: Changes, record: &mut CommitRecord)
+    fn commit(&mut self, instr: Instr, e: &Changes, record: &mut CommitRecord)
         requires count { self.old.icnt + 1 < 2 ^ 62 }
-        requires proper { IsProper (range_of self.old.text) e }
-        requires held { ForSome e.mem (λ w. IsRangeReserved self.old.pages w.addr (length w.bytes.items)) }
-        ensures did { «record».new ≡ recorded (state_of self.old) instr e }
-        ensures after { state_of self.new ≡ moved (state_of self.old) e }
+        requires proper { IsProper (range_of self.old.text) e.now }
+        requires held { ForSome e.now.mem (λ w. IsRangeReserved self.old.pages w.addr (length w.bytes.items)) }
+        ensures did { «record».new ≡ recorded (state_of self.old) instr e.now }
+        ensures after { state_of self.new ≡ moved (state_of self.old) e.now }
         ensures pages { is_reserved self.new.pages ≡ is_reserved self.old.pages }
     {
         let (number, pc) = (self.icnt, self.pc);
-        apply(self, &e);
+        apply(self, e);
         self.pc = e.next;
         self.icnt = number + 1;
         set_registers(&mut record.regs, e.regs.as_slice());
@@ -91,7 +91,7 @@ impl Arch {
         record.taken = e.taken;
         record.hi = e.hi;
         record.lo = e.lo;
-        record.mem = e.mem;
+        record.mem = copied(&e.mem);
         record.access = e.access;
         record.call = None;
     }
@@ -107,9 +107,10 @@ impl Arch {
         ensures memory { IfOk (effect_of (reader_of self.old) instr self.old.pc (range_of self.old.text)) (StoreHeld self.old.pages) → FoundMemory result }
     {
         let (pc, text) = (self.pc, self.text_range());
-        match effect(self, &instr, pc, text) {
-            Err(cause) => Progress::Stopped(cause),
-            Ok(e) => match self.reserve_for(&e) {
+        let outcome = effect(self, &instr, pc, text);
+        match &outcome {
+            Err(cause) => Progress::Stopped(*cause),
+            Ok(e) => match self.reserve_for(e) {
                 Ok(()) => {
                     self.commit(instr, e, record);
                     Progress::Did
@@ -188,4 +189,29 @@ fn set_registers(into: &mut ArrayVec<(u8, u32), 8>, registers: &[(u8, u32)])
     for item in registers {
         into.push(*item);
     }
+}
+
+/// The same write.
+fn copied(mem: &Option<MemWrite>) -> Option<MemWrite>
+    ensures { result ≡ mem.now }
+{
+    match mem {
+        None => None,
+        Some(write) => Some(MemWrite {
+            addr: write.addr,
+            bytes: bytes_of(write.bytes.as_slice()),
+        }),
+    }
+}
+
+/// A vector of the bytes of a slice.
+fn bytes_of(bytes: &[u8]) -> ArrayVec<u8, 8>
+    requires { length bytes.now ≤ 8 }
+    ensures { result ≡ vec_of bytes.now }
+{
+    let mut all = ArrayVec::new();
+    for byte in bytes {
+        all.push(*byte);
+    }
+    all
 }
