@@ -12,3 +12,5 @@ pub mod Observed
 pub mod Advance
 pub mod Statistics
 pub mod Ends
+pub mod Decoded
+pub mod Progress

@@ -10,6 +10,7 @@ ghost use Rattle.sim_safe.specs.Agreement.{agrees_same, agrees_sym, agrees_trans
 
 use ecoff_load::Text;
 use paged_mem::PagedMem;
+use pisa_isa::Instr;
 use pisa_step::{Machine, TextRange};
 use ss_base::OutOfMemory;
 use std::marker::Model;
@@ -27,17 +28,19 @@ pub struct Arch {
     pub(crate) used: u32,
     pub(crate) ended: Option<u32>,
     pub(crate) text: Text,
+    /// What each instruction of the text is, None where its words code none.
+    pub(crate) instrs: Vec<Option<Instr>>,
 }
 
 impl Model for Arch {
     ghost use Rattle.sim_safe.specs.State.{Storage};
-    ghost use Rattle.ecoff_load.specs.Object.{IsText};
+    ghost use Rattle.sim_safe.specs.Decoded.{Holds};
 
     ghost Value = { Storage };
 
     ghost view = { λ a. record { pc = a.pc; regs = a.regs; hi = a.hi; lo = a.lo; pages = a.mem; icnt = a.icnt; used = a.used; ended = a.ended; text = a.text } };
 
-    ghost invariant = { λ a. IsText a.text };
+    ghost invariant = { λ a. Holds a.text a.instrs.items };
 }
 
 impl Arch {
@@ -162,6 +165,24 @@ impl Machine for Arch {
 
     fn big(&self) -> bool {
         self.text.big
+    }
+
+    fn half(&self, addr: u32) -> u16 {
+        let bytes = self.mem.half_bytes(addr);
+        if self.text.big {
+            u16::from_be_bytes(bytes)
+        } else {
+            u16::from_le_bytes(bytes)
+        }
+    }
+
+    fn word(&self, addr: u32) -> u32 {
+        let bytes = self.mem.word_bytes(addr);
+        if self.text.big {
+            u32::from_be_bytes(bytes)
+        } else {
+            u32::from_le_bytes(bytes)
+        }
     }
 
     /// Whether all pages of the range are reserved and none of its bytes lies in the text.

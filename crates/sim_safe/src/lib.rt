@@ -12,6 +12,7 @@
 mod arch;
 mod call;
 mod commit;
+mod decoded;
 mod ends;
 mod laws;
 mod observer;

@@ -10,7 +10,7 @@ ghost use Rattle.sim_safe.specs.State.{state_of};
 ghost use Rattle.sim_safe.specs.Step.{step_of, TakesNoMemory};
 
 use crate::arch::Arch;
-use crate::record::{CommitRecord, Stepped};
+use crate::record::{CommitRecord, Progress};
 use event_trace::Trace;
 use pisa_step::Cause;
 
@@ -94,10 +94,30 @@ impl Arch {
         ensures pages { (number : ℕ) → IsReserved self.old.pages number → IsReserved self.new.pages number }
         ensures memory { AdvanceMemory O.takes_no_memory O.means (TakesNoMemory trace.now self.old.pages (step_of trace.now (state_of self.old))) o.old o.new result }
     {
-        match self.step(trace) {
-            Err(_) => Advance::Failed(RunFault::OutOfMemory),
-            Ok(Stepped::Stop(cause)) => Advance::Ended(cause),
-            Ok(Stepped::Did(record)) => match o.saw(&record, trace) {
+        let mut did = CommitRecord::blank();
+        self.advance_with(trace, o, &mut did)
+    }
+
+    /// Does the same with a place for the record.
+    #[inline(always)]
+    fn advance_with<O: Observer>(
+        &mut self,
+        trace: &Trace,
+        o: &mut O,
+        did: &mut CommitRecord,
+    ) -> Advance<O::Fault>
+        requires count { self.old.icnt + 1 < 2 ^ 62 }
+        requires trace { IsRunTrace trace.now }
+        ensures took { (start : O) (h : List Item) → O.took start h o.old → AdvanceTook O.took O.cut trace.now (state_of self.old) (state_of self.new) start h o.new result }
+        ensures state { AdvanceState trace.now (state_of self.old) (state_of self.new) result }
+        ensures count { AdvanceCounts O.means (O.faults o.old) (O.faults o.new) result }
+        ensures pages { (number : ℕ) → IsReserved self.old.pages number → IsReserved self.new.pages number }
+        ensures memory { AdvanceMemory O.takes_no_memory O.means (TakesNoMemory trace.now self.old.pages (step_of trace.now (state_of self.old))) o.old o.new result }
+    {
+        match self.step_into(trace, did) {
+            Progress::OutOfMemory => Advance::Failed(RunFault::OutOfMemory),
+            Progress::Stopped(cause) => Advance::Ended(cause),
+            Progress::Did => match o.saw(did, trace) {
                 Ok(()) => Advance::Going,
                 Err(fault) => Advance::Failed(RunFault::Watch(fault)),
             },
@@ -131,8 +151,9 @@ impl Arch {
         if n == 0 {
             return Ok(RunEnd::Limit);
         }
+        let mut did = CommitRecord::blank();
         for done in 0..n {
-            match self.advance(trace, o) {
+            match self.advance_with(trace, o, &mut did) {
                 Advance::Going => {}
                 Advance::Ended(cause) => return Ok(RunEnd::Stop(cause)),
                 Advance::Failed(fault) => return Err(fault),

@@ -1,7 +1,7 @@
 //! What an instruction did, and what a step answers.
 use arrayvec::ArrayVec;
 use event_trace::CallKind;
-use pisa_isa::Instr;
+use pisa_isa::{Instr, Op};
 use pisa_step::{Cause, MemWrite};
 
 /// What is noted of a system call.
@@ -42,6 +42,33 @@ pub struct CommitRecord {
     pub call: Option<CallNote>,
 }
 
+impl CommitRecord {
+    /// A record that is still to be written.
+    pub(crate) fn blank() -> CommitRecord {
+        CommitRecord {
+            number: 0,
+            pc: 0,
+            instr: Instr {
+                op: Op::Nop,
+                rs: 0,
+                rt: 0,
+                rd: 0,
+                shamt: 0,
+                imm: 0,
+                target: 0,
+            },
+            next: 0,
+            taken: false,
+            regs: ArrayVec::new(),
+            hi: None,
+            lo: None,
+            mem: None,
+            access: None,
+            call: None,
+        }
+    }
+}
+
 /// What the next step does.
 #[derive(Clone, Copy, Debug, PartialEq, Eq)]
 pub enum Peek {
@@ -60,4 +87,15 @@ pub enum Stepped {
     Did(CommitRecord),
     /// Nothing was done, for this cause.
     Stop(Cause),
+}
+
+/// What a step did whose record is written in place.
+#[derive(Drop)]
+pub(crate) enum Progress {
+    /// An instruction was done, and the record tells of it.
+    Did,
+    /// Nothing was done, for this cause.
+    Stopped(Cause),
+    /// A growth found no memory.
+    OutOfMemory,
 }

@@ -5,11 +5,14 @@ ghost use Rattle.ecoff_load.specs.Object.{IsImage};
 ghost use Rattle.ecoff_load.specs.Start.{block, RefusesStart};
 ghost use Rattle.pisa_step.specs.Reader.{bytes_with};
 ghost use Rattle.paged_mem.specs.Memory.{byte_of, IsReserved, IsRangeReserved};
+ghost use Rattle.sim_safe.specs.Decoded.{AreDecoded};
 ghost use Rattle.sim_safe.specs.State.{state_of, start_state, image_memory, laid, ArePartsReserved, IsLaidOut};
 
 use crate::arch::Arch;
+use crate::decoded::decoded;
 use ecoff_load::{Image, Part, StartFault, start_block};
 use paged_mem::PagedMem;
+use pisa_isa::Instr;
 use ss_base::OutOfMemory;
 use std::alloc::Global;
 
@@ -34,12 +37,16 @@ impl Arch {
         let Ok(mem) = start_memory(alloc, &image, bytes.as_slice()) else {
             return Err(StartFault::OutOfMemory);
         };
-        Ok(Arch::at_entry(image, mem))
+        let Ok(instrs) = decoded(alloc, &image.text) else {
+            return Err(StartFault::OutOfMemory);
+        };
+        Ok(Arch::at_entry(image, mem, instrs))
     }
 
-    /// A machine at a program's entry, with a memory.
-    fn at_entry(image: Image, mem: PagedMem) -> Arch
-        requires { IsImage image }
+    /// A machine at a program's entry, with a memory and the text decoded.
+    fn at_entry(image: Image, mem: PagedMem, instrs: Vec<Option<Instr>>) -> Arch
+        requires image { IsImage image }
+        requires decoded { AreDecoded image.text instrs.items }
         ensures state { (args : List (List ℕ)) → byte_of mem ≡ bytes_with (image_memory image) 0x7fff8000 (block image.text.big args) → state_of result ≡ start_state image args }
         ensures pages { result.pages ≡ mem }
     {
@@ -60,6 +67,7 @@ impl Arch {
             used: 0,
             ended: None,
             text,
+            instrs,
         }
     }
 }

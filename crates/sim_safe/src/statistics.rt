@@ -38,6 +38,7 @@ impl Statistics {
     }
 
     /// Counts an instruction that was done. A count stands still at its type's end.
+    #[inline(always)]
     pub fn count(&mut self, i: &Instr)
         ensures counts { self.new ≡ at_most (counted i.now self.old) }
         ensures exact { IsCountable self.old → self.new ≡ counted i.now self.old }
@@ -46,6 +47,7 @@ impl Statistics {
     }
 
     /// The counts with one more instruction.
+    #[inline(always)]
     fn with(&self, i: &Instr) -> Statistics
         ensures { result ≡ at_most (counted i.now self.now) }
     {

@@ -44,6 +44,7 @@ fn emit<O: Outside>(outside: &mut O, blocks: &[Block]) -> Result<(), Fault>
 }
 
 /// Adds the line of an instruction to what is pending, and writes that to the file where it is long.
+#[inline(never)]
 fn write_line<O: Outside>(
     outside: &mut O,
     file: &str,
@@ -71,6 +72,7 @@ fn write_line<O: Outside>(
 }
 
 /// Does so where a file is named.
+#[inline(always)]
 fn write_line_if_named<O: Outside>(
     outside: &mut O,
     file: Option<&str>,
@@ -115,6 +117,7 @@ impl<'a, 'f, 'n, 'p, O: Outside> Observer for TextWatch<'a, 'f, 'n, 'p, O> {
       statistics = λ e l. e;
     } };
 
+    #[inline(always)]
     fn saw(&mut self, r: &CommitRecord, trace: &Trace) -> Result<(), Fault> {
         match emit(self.outside, emitted(r, trace)) {
             Ok(()) => {}

@@ -5,7 +5,7 @@ use Rattle.pisa_isa.specs.contracts.instr.Op.{the_type}
 use denote.Enum.Bare.{sameb}
 use Rattle.sim_safe.specs.State.{state_of}
 use Rattle.sim_safe.proofs.NoMemory.{step_held}
-use Rattle.sim_safe.proofs.arch.Arch.step.Goals as goal
+use Rattle.sim_safe.proofs.arch.Arch.step_into.Goals as goal
 
 other : (o : Op) → false ≡ sameb the_type o op.Syscall → o ≢ op.Syscall
 other o h e = let k : false ≡ sameb the_type op.Syscall op.Syscall = subst (λ (x : Op). false ≡ sameb the_type x op.Syscall) e h in cc
