@@ -14,3 +14,4 @@ pub mod OutputLength
 pub mod Parts
 pub mod Replays
 pub mod Recorded
+pub mod Recorders
