@@ -45,7 +45,7 @@ failed_through f place v a b h x e q = record {
 }
 
 left_through : {O Q : Type 0} (f : O → Q) (place : O → ℕ × ℕ × ℕ) (v : View Q) (a b : O) (h : Journal) → v.place (f b) ≡ v.place (f a) → LeftOut (through f place v) a h b → LeftOut v (f a) h (f b)
-left_through f place v a b h e q = record { done = q.done; next = q.next; later = q.later; all = q.all; holds = holds_through f place v a b _ e q.holds; untouched = untouched_through f place v a b h q.untouched }
+left_through f place v a b h e q = record { done = q.done; next = q.next; later = q.later; all = q.all; holds = holds_through f place v a b _ e q.holds; untouched = untouched_through f place v a b _ q.untouched }
 
 gave_up_through : {O Q : Type 0} (f : O → Q) (place : O → ℕ × ℕ × ℕ) (v : View Q) (a b : O) (h : Journal) (x : Fault) → v.place (f b) ≡ v.place (f a) → GaveUp (through f place v) a h x b → GaveUp v (f a) h x (f b)
 gave_up_through f place v a b h fault.Shelf e q = failed_through f place v a b h fault.Shelf e q
