@@ -44,13 +44,12 @@ returns-in-Ok-false-clause-state g c =
 pub returns-in-Err-clause-trace : goal.returns-in-Err-clause-trace
 returns-in-Err-clause-trace g c =
     let whole = recording serve c.args.n c.args.recorder.now.world c.args.recorder.now.trace (state_of c.args.self.now) in
-    let left = trace_left c.args.recorder.now c.loop-done.recorder c.args.n c.loop-done.done (state_of c.args.self.now) (state_of c.loop-done.self) (omega (arith, c.loop-done-test.true)) c.loop-done.invariant.calls in
-    (
+    let left = trace_left c.args.recorder.now c.loop-done.recorder c.args.n c.loop-done.done (state_of c.args.self.now) (state_of c.loop-done.self) (omega (arith, c.loop-done-test.true)) c.loop-done.invariant.calls in (
       front_unready (c.args.n - c.loop-done.done) whole c.loop-done.recorder.world c.loop-done.recorder.trace c.prepare.new.recorder.trace
-      c.args.n c.loop-done.done (state_of c.args.self.now) (state_of c.loop-done.self)
-      left (ap (λ x. x.trace) c.in-Err.ensures.ready.0) c.in-Err.ensures.file c.loop-done-test.true c.loop-done.invariant.reaches c.loop-done.invariant.icnt,
+          c.args.n c.loop-done.done (state_of c.args.self.now) (state_of c.loop-done.self)
+          left (ap (λ x. x.trace) c.in-Err.ensures.ready.0) c.in-Err.ensures.file c.loop-done-test.true c.loop-done.invariant.reaches c.loop-done.invariant.icnt,
       left_unready c.args.recorder.now c.loop-done.recorder c.prepare.new.recorder c.loop-done.done (state_of c.args.self.now) (state_of c.loop-done.self)
-      c.loop-done.invariant.icnt c.loop-done.invariant.calls c.in-Err.ensures.ready.0,
+          c.loop-done.invariant.icnt c.loop-done.invariant.calls c.in-Err.ensures.ready.0,
     )
 
 pub returns-in-Ended-clause-trace : goal.returns-in-Ended-clause-trace
@@ -96,13 +95,12 @@ returns-in-Failed-clause-trace g c =
     let S : Trace → Type 0 = λ x. AdvanceState x (state_of c.loop-done.self) (state_of c.advance.new.self) (Failed c.in-Failed.fault) in
     let more : 0 < c.args.n - c.loop-done.done = omega (arith, c.loop-done-test.true) in
     let came = subst S c.trace.ensures.same c.in-Failed.ensures.state in
-    let left = trace_left c.args.recorder.now c.loop-done.recorder c.args.n c.loop-done.done (state_of c.args.self.now) (state_of c.loop-done.self) (omega (arith, c.loop-done-test.true)) c.loop-done.invariant.calls in
-    (
+    let left = trace_left c.args.recorder.now c.loop-done.recorder c.args.n c.loop-done.done (state_of c.args.self.now) (state_of c.loop-done.self) (omega (arith, c.loop-done-test.true)) c.loop-done.invariant.calls in (
       front_failed (c.args.n - c.loop-done.done) whole c.loop-done.recorder.world c.loop-done.recorder.trace c.prepare.new.recorder.world T
-      c.args.n c.loop-done.done (state_of c.args.self.now) (state_of c.loop-done.self) (state_of c.advance.new.self) c.in-Failed.fault
-      left r file more c.loop-done-test.true reach c.loop-done.invariant.icnt came,
+          c.args.n c.loop-done.done (state_of c.args.self.now) (state_of c.loop-done.self) (state_of c.advance.new.self) c.in-Failed.fault
+          left r file more c.loop-done-test.true reach c.loop-done.invariant.icnt came,
       left_failed c.args.recorder.now c.loop-done.recorder c.prepare.new.recorder c.loop-done.done (state_of c.args.self.now) (state_of c.loop-done.self) (state_of c.advance.new.self) c.in-Failed.fault
-      c.loop-done.invariant.icnt c.loop-done.invariant.calls r came,
+          c.loop-done.invariant.icnt c.loop-done.invariant.calls r came,
     )
 
 pub returns-in-Failed-clause-took : goal.returns-in-Failed-clause-took
