@@ -1,16 +1,14 @@
 -- Files that are loaded one after the other.
-use Rattle.std.proofs.Common.{◌≡◌, ℕ, ◌+◌, ◌≤◌, ◌<◌, List, [], ◌∷◌, ◌++◌, length, Some, Ok, refl, sym, ap, ◌∙◌, subst, arith, take, drop, get_or, zero, suc, Bor, drop-cons, take_all}
-use Rattle.std.specs.Prelude.{map, Vec, String, IsSome}
+use Rattle.std.proofs.Common.{◌≡◌, ℕ, ◌+◌, ◌≤◌, ◌<◌, List, [], ◌∷◌, ◌++◌, length, Some, Ok, refl, sym, ap, ◌∙◌, subst, arith, take, drop, get_or, suc, Bor, drop-cons, take_all, append_assoc}
+use Rattle.std.specs.Prelude.{map, Vec, String}
 use Rattle.std.proofs.lemmas.List.{length-map, map-append, get_or-map, take_more, take-append-drop, length-take-le}
-use Rattle.ss_base.specs.Outside.{Files}
 use Rattle.journal.specs.declared.fault.Fault.{Fault}
-use Rattle.journal.specs.declared.fault.Fault.TheVariants as fault
 use Rattle.journal.specs.declared.loading.Found.{Found}
 use Rattle.journal.specs.declared.loading.Found.TheVariants as found
 use Rattle.journal.specs.View.{View, Wrote}
-use Rattle.journal.specs.Load.{Input, input, inputs, AreHeld, IsFound, AreFound, Unloaded, GaveUpLoading, found_of, name_of, IsFirstLong, FindsOpened, FoundAll, FoundLong}
+use Rattle.journal.specs.Load.{Input, input, inputs, IsFound, AreFound, GaveUpLoading, found_of, name_of, IsFirstLong, FindsOpened, FoundAll, FoundLong}
 use Rattle.journal.specs.Laws.{wrote_none}
-use Rattle.journal.specs.Loading.{are_append, is_found_after, found_in, are_there, wrote_after, unloaded_after}
+use Rattle.journal.specs.Loading.{are_append, is_found_after, found_in, are_there, wrote_after, loading_before, loading_whole}
 
 -- the file at a place of a list of names
 pub place_within : (names : List (Bor (List ℕ))) (limit k : ℕ) → k < length names → k < length (inputs (map (λ n. n.now) names) limit)
@@ -35,11 +33,6 @@ all_places names limit k l =
 -- a list is what stands before a place, at it and behind it
 split_at : (is : List Input) (k : ℕ) (i : Input) (d : Input) → k < length is → i ≡ get_or is k d → take k is ++ i ∷ drop (suc k) is ≡ is
 split_at is k i d l e = ap (λ y. take k is ++ y ∷ drop (suc k) is) e ∙ ap (λ y. take k is ++ y) (sym (drop-cons is k d l)) ∙ take-append-drop k is
-
-pub held_at : (files : Files) (is : List Input) (k : ℕ) (d : Input) → AreHeld files is → k < length is → IsSome (files (get_or is k d).name)
-held_at files [] k d h l = absurd (omega arith)
-held_at files (i ∷ is) zero d h l = h.0
-held_at files (i ∷ is) (suc k) d h l = held_at files is k d h.1 (omega arith)
 
 -- ---- the files before a place
 
@@ -87,26 +80,9 @@ long_found v a b c is k i d files l e p w q =
       long = subst (λ x. IsFirstLong (map found_of files ++ found.TooLong ∷ rest) x) (count_of v a b is k files l p) (whole_then files rest);
     }
 
-unloaded_at : {O : Type 0} (v : View O) (a b : O) (is : List Input) (k : ℕ) (i d : Input) → k < length is → i ≡ get_or is k d → Unloaded v a (i ∷ []) b → Unloaded v a is b
-unloaded_at v a b is k i d l e q = record {
-  stays = q.stays;
-  counts = q.counts;
-  calm = λ c t h. q.calm c t (subst (λ x. IsSome (v.files a x.name)) (sym e) (held_at (v.files a) is k d h l), tt);
-  files = q.files;
-  output = q.output;
-  report = q.report;
-  prog = q.prog;
-  stat = q.stat;
-}
-
-unloaded_found : {O : Type 0} (v : View O) (a b c : O) (i : Input) → Wrote v a [] b → Unloaded v b (i ∷ []) c → Unloaded v a (i ∷ []) c
-unloaded_found v a b c i p q =
-    let r = unloaded_after v a b c i (i ∷ []) p q in
-    record { stays = r.stays; counts = r.counts; calm = λ k t h. r.calm k t (h.0, h); files = r.files; output = r.output; report = r.report; prog = r.prog; stat = r.stat }
-
 pub gave_up_found : {O A B : Type 0} (v : View O) (a b c : O) (is : List Input) (k : ℕ) (i d : Input) (files : List (String A × Vec ℕ B)) (f : Fault) → k < length is → i ≡ get_or is k d
     → FoundAll v a (take k is) b files → GaveUpLoading v b (i ∷ []) f c → GaveUpLoading v a is f c
-gave_up_found v a b c is k i d files fault.Shelf l e p q = unloaded_at v a c is k i d l e (unloaded_found v a b c i p.wrote q)
-gave_up_found v a b c is k i d files fault.Prog l e p q = q
-gave_up_found v a b c is k i d files fault.Stat l e p q = q
-gave_up_found v a b c is k i d files fault.OutOfMemory l e p q = wrote_after v a b c [] p.wrote q
+gave_up_found v a b c is k i d files f l e p q =
+    let behind = drop (suc k) is in
+    let z : (take k is ++ i ∷ []) ++ behind ≡ is = append_assoc (take k is) (i ∷ []) behind ∙ split_at is k i d l e in
+    subst (λ x. GaveUpLoading v a x f c) z (loading_before v a c (take k is ++ i ∷ []) behind f (loading_whole v a b c (take k is) (i ∷ []) files f p q))

@@ -1,5 +1,5 @@
 -- Laws from the one relation of a command to each fact that its callers have.
-use Rattle.std.specs.Prelude.{◌≡◌, ◌≢◌, ◌++◌, ℕ, List, [], ◌∷◌, Some, None, Result, Ok, Err}
+use Rattle.std.specs.Prelude.{◌≡◌, ◌≢◌, ◌++◌, ℕ, List, [], ◌∷◌, Some, None, IsSome, Result, Ok, Err}
 use Rattle.std.proofs.Common.{refl, sym, ap, ◌∙◌, subst, inl, inr, append-nil}
 use Rattle.ss_base.specs.Outside.{Files, SameFiles, bytes_at}
 use Rattle.journal.specs.declared.fault.Fault.{Fault}
@@ -73,7 +73,7 @@ gave_up_files v a b h fault.Stat t s q = failed_files v a b h fault.Stat t s q
 gave_up_files v a b h fault.OutOfMemory t s q = left_files v a b h t s q
 
 same_loading : {O : Type 0} (v : View O) (a b : O) (inputs : List Input) (f : Fault) → v.tells a → GaveUpLoading v a inputs f b → SameFiles (v.files a) (v.files b)
-same_loading v a b inputs fault.Shelf t q = λ name. ap (λ (files : Files). files name) (q.files t)
+same_loading v a b inputs fault.Shelf t q = λ name. ap (λ (files : Files). files name) (q.unloaded.files t)
 same_loading v a b inputs fault.Prog t q = absurd q
 same_loading v a b inputs fault.Stat t q = absurd q
 same_loading v a b inputs fault.OutOfMemory t q = λ name. ap (λ (files : Files). files name) (q.holds.files t)
@@ -89,13 +89,13 @@ leaves_files v a b inputs Has r starts t p =
 -- ---- what streams hold
 
 prog_loading : {O : Type 0} (v : View O) (a b : O) (inputs : List Input) (f : Fault) → GaveUpLoading v a inputs f b → v.prog.sink b ≡ v.prog.sink a
-prog_loading v a b inputs fault.Shelf q = q.prog
+prog_loading v a b inputs fault.Shelf q = q.unloaded.prog
 prog_loading v a b inputs fault.Prog q = absurd q
 prog_loading v a b inputs fault.Stat q = absurd q
 prog_loading v a b inputs fault.OutOfMemory q = q.untouched.prog tt
 
 stat_loading : {O : Type 0} (v : View O) (a b : O) (inputs : List Input) (f : Fault) → GaveUpLoading v a inputs f b → v.stat.sink b ≡ v.stat.sink a
-stat_loading v a b inputs fault.Shelf q = q.stat
+stat_loading v a b inputs fault.Shelf q = q.unloaded.stat
 stat_loading v a b inputs fault.Prog q = absurd q
 stat_loading v a b inputs fault.Stat q = absurd q
 stat_loading v a b inputs fault.OutOfMemory q = q.untouched.stat tt
@@ -135,13 +135,13 @@ gave_up_report v a b h fault.Stat t q = failed_report v a b h fault.Stat t q
 gave_up_report v a b h fault.OutOfMemory t q = left_report v a b h t q
 
 same_output : {O : Type 0} (v : View O) (a b : O) (inputs : List Input) (f : Fault) → v.prog.tells a → GaveUpLoading v a inputs f b → v.prog.contents b ≡ v.prog.contents a
-same_output v a b inputs fault.Shelf t q = q.output t
+same_output v a b inputs fault.Shelf t q = q.unloaded.output t
 same_output v a b inputs fault.Prog t q = absurd q
 same_output v a b inputs fault.Stat t q = absurd q
 same_output v a b inputs fault.OutOfMemory t q = q.holds.output t ∙ append-nil (v.prog.contents a)
 
 same_report : {O : Type 0} (v : View O) (a b : O) (inputs : List Input) (f : Fault) → v.stat.tells a → GaveUpLoading v a inputs f b → v.stat.contents b ≡ v.stat.contents a
-same_report v a b inputs fault.Shelf t q = q.report t
+same_report v a b inputs fault.Shelf t q = q.unloaded.report t
 same_report v a b inputs fault.Prog t q = absurd q
 same_report v a b inputs fault.Stat t q = absurd q
 same_report v a b inputs fault.OutOfMemory t q = q.holds.report t ∙ append-nil (v.stat.contents a)
@@ -300,7 +300,7 @@ gave_up_counts v a b h fault.Stat q = q.counts
 gave_up_counts v a b h fault.OutOfMemory q = q.holds.counts
 
 loading_counts : {O : Type 0} (v : View O) (a b : O) (inputs : List Input) (f : Fault) → GaveUpLoading v a inputs f b → Raised f (counts v a) (counts v b)
-loading_counts v a b inputs fault.Shelf q = q.counts
+loading_counts v a b inputs fault.Shelf q = q.unloaded.counts
 loading_counts v a b inputs fault.Prog q = absurd q
 loading_counts v a b inputs fault.Stat q = absurd q
 loading_counts v a b inputs fault.OutOfMemory q = q.holds.counts
@@ -318,7 +318,7 @@ gave_up_stays v a b h fault.Stat q = q.stays
 gave_up_stays v a b h fault.OutOfMemory q = q.holds.stays
 
 loading_stays : {O : Type 0} (v : View O) (a b : O) (inputs : List Input) (f : Fault) → GaveUpLoading v a inputs f b → Stays v a b
-loading_stays v a b inputs fault.Shelf q = q.stays
+loading_stays v a b inputs fault.Shelf q = q.unloaded.stays
 loading_stays v a b inputs fault.Prog q = absurd q
 loading_stays v a b inputs fault.Stat q = absurd q
 loading_stays v a b inputs fault.OutOfMemory q = q.holds.stays
@@ -328,9 +328,13 @@ stays v a b inputs Has (Ok e) p = p.ends.1.holds.stays
 stays v a b inputs Has (Err f) (inl q) = loading_stays v a b inputs f q
 stays v a b inputs Has (Err f) (inr q) = gave_up_stays v a b q.outcome.writes f q.ends
 
+held_among : (files : Files) (before : List Input) (i : Input) (later : List Input) → AreHeld files (before ++ i ∷ later) → IsSome (files i.name)
+held_among files [] i later h = h.0
+held_among files (j ∷ before) i later h = held_among files before i later h.1
+
 -- a calm shelf that holds the files, and tells it, has no fault
 pub succeeds : {O E : Type 0} (v : View O) (a b : O) (inputs : List Input) (Has : List Found → Outcome E → Type 0) → v.calm a → v.tells a → AreHeld (v.files a) inputs → Comes v a inputs Has b (Err fault.Shelf) → ⊥
-succeeds v a b inputs Has k t h (inl q) = q.calm k t h
+succeeds v a b inputs Has k t h (inl q) = q.unloaded.calm k t (held_among (v.files a) q.before q.failed q.later (subst (AreHeld (v.files a)) q.all h))
 succeeds v a b inputs Has k t h (inr q) = q.ends.calm k
 
 -- ---- untouched streams

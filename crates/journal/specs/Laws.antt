@@ -1,6 +1,6 @@
 -- Laws of journals that are written one behind the other.
 use Rattle.std.specs.Prelude.{◌≡◌, ◌++◌, ℕ, List, [], ◌∷◌, Result, Ok, Err}
-use Rattle.std.proofs.Common.{refl, sym, ap, ◌∙◌, subst, append_assoc, append-nil}
+use Rattle.std.proofs.Common.{refl, sym, ap, ◌∙◌, subst, inl, inr, append_assoc, append-nil}
 use Rattle.ss_base.specs.Outside.{Files}
 use Rattle.journal.specs.declared.fault.Fault.{Fault}
 use Rattle.journal.specs.declared.fault.Fault.TheVariants as fault
@@ -125,14 +125,19 @@ failed_more v a b c h k f p q = record {
   untouched = untouched_more v a b c h (q.next ∷ q.done) p.untouched q.untouched;
 }
 
-ran_out_more : {O : Type 0} (v : View O) (a b c : O) (h k : Journal) → Wrote v a h b → RanOut v b k c → RanOut v a (k ++ h) c
-ran_out_more v a b c h k p q = record {
+left_out_more : {O : Type 0} (v : View O) (a b c : O) (h k : Journal) → Wrote v a h b → LeftOut v b k c → LeftOut v a (k ++ h) c
+left_out_more v a b c h k p q = record {
   done = q.done ++ h;
+  next = q.next;
   later = q.later;
-  all = ap (λ l. l ++ h) q.all ∙ append_assoc q.later q.done h;
+  all = ap (λ l. l ++ h) q.all ∙ append_assoc q.later (q.next ∷ q.done) h;
   holds = holds_more v a b c h q.done p.holds q.holds;
-  untouched = untouched_more v a b c h k p.untouched q.untouched;
+  untouched = untouched_more v a b c h (q.next ∷ q.done) p.untouched q.untouched;
 }
+
+ran_out_more : {O : Type 0} (v : View O) (a b c : O) (h k : Journal) → Wrote v a h b → RanOut v b k c → RanOut v a (k ++ h) c
+ran_out_more v a b c h k p (inl q) = inl (wrote_more v a b c h k p q)
+ran_out_more v a b c h k p (inr q) = inr (left_out_more v a b c h k p q)
 
 -- a cut behind a whole journal
 pub cut_more : {O : Type 0} (v : View O) (a b c : O) (h k : Journal) (f : Fault) → Wrote v a h b → Cut v b k f c → Cut v a (k ++ h) f c
@@ -157,14 +162,31 @@ failed_within v a b h k f q = record {
   untouched = q.untouched;
 }
 
-ran_out_within : {O : Type 0} (v : View O) (a b : O) (h k : Journal) → RanOut v a h b → RanOut v a (k ++ h) b
-ran_out_within v a b h k q = record {
+left_out_within : {O : Type 0} (v : View O) (a b : O) (h k : Journal) → LeftOut v a h b → LeftOut v a (k ++ h) b
+left_out_within v a b h k q = record {
   done = q.done;
+  next = q.next;
   later = k ++ q.later;
-  all = ap (λ l. k ++ l) q.all ∙ sym (append_assoc k q.later q.done);
+  all = ap (λ l. k ++ l) q.all ∙ sym (append_assoc k q.later (q.next ∷ q.done));
   holds = q.holds;
-  untouched = untouched_within v a b h k q.untouched;
+  untouched = q.untouched;
 }
+
+-- a list of missing writes that ends with its oldest one
+pub oldest : (w : Write) (later done : Journal) → (next : Write) × (more : Journal) × (w ∷ later ++ done ≡ more ++ next ∷ done)
+oldest w [] done = (w, [], refl)
+oldest w (x ∷ later) done = let q = oldest x later done in (q.0, w ∷ q.1, ap (λ l. w ∷ l) q.2)
+
+-- a whole journal is given up where further writes were to come
+wrote_left : {O : Type 0} (v : View O) (a b : O) (h : Journal) (w : Write) (k : Journal) → Wrote v a h b → LeftOut v a (w ∷ k ++ h) b
+wrote_left v a b h w k q =
+    let p = oldest w k h in
+    record { done = h; next = p.0; later = p.1; all = p.2; holds = q.holds; untouched = untouched_within v a b h (p.0 ∷ []) q.untouched }
+
+ran_out_within : {O : Type 0} (v : View O) (a b : O) (h k : Journal) → RanOut v a h b → RanOut v a (k ++ h) b
+ran_out_within v a b h [] q = q
+ran_out_within v a b h (w ∷ k) (inl q) = inr (wrote_left v a b h w k q)
+ran_out_within v a b h (w ∷ k) (inr q) = inr (left_out_within v a b h (w ∷ k) q)
 
 -- a cut stays one where further writes were to come
 pub cut_within : {O : Type 0} (v : View O) (a b : O) (h k : Journal) (f : Fault) → Cut v a h f b → Cut v a (k ++ h) f b
@@ -175,19 +197,10 @@ cut_within v a b h k fault.OutOfMemory q = ran_out_within v a b h k q
 
 -- without memory nothing need be written
 pub cut_none : {O : Type 0} (v : View O) (a : O) (h : Journal) → Cut v a h fault.OutOfMemory a
-cut_none v a h = record { done = []; later = h; all = sym (append-nil h); holds = holds_none v a; untouched = untouched_none v a h }
+cut_none v a [] = inl (wrote_none v a)
+cut_none v a (w ∷ h) = inr (subst (λ l. LeftOut v a (w ∷ l) a) (append-nil h) (wrote_left v a a [] w h (wrote_none v a)))
 
 -- ---- journals that were given up
-
-left_out_more : {O : Type 0} (v : View O) (a b c : O) (h k : Journal) → Wrote v a h b → LeftOut v b k c → LeftOut v a (k ++ h) c
-left_out_more v a b c h k p q = record {
-  done = q.done ++ h;
-  next = q.next;
-  later = q.later;
-  all = ap (λ l. l ++ h) q.all ∙ append_assoc q.later (q.next ∷ q.done) h;
-  holds = holds_more v a b c h q.done p.holds q.holds;
-  untouched = untouched_more v a b c h k p.untouched q.untouched;
-}
 
 -- giving up behind a whole journal
 pub gave_up_more : {O : Type 0} (v : View O) (a b c : O) (h k : Journal) (f : Fault) → Wrote v a h b → GaveUp v b k f c → GaveUp v a (k ++ h) f c
@@ -195,16 +208,6 @@ gave_up_more v a b c h k fault.Shelf p q = failed_more v a b c h k fault.Shelf p
 gave_up_more v a b c h k fault.Prog p q = failed_more v a b c h k fault.Prog p q
 gave_up_more v a b c h k fault.Stat p q = failed_more v a b c h k fault.Stat p q
 gave_up_more v a b c h k fault.OutOfMemory p q = left_out_more v a b c h k p q
-
-left_out_within : {O : Type 0} (v : View O) (a b : O) (h k : Journal) → LeftOut v a h b → LeftOut v a (k ++ h) b
-left_out_within v a b h k q = record {
-  done = q.done;
-  next = q.next;
-  later = k ++ q.later;
-  all = ap (λ l. k ++ l) q.all ∙ sym (append_assoc k q.later (q.next ∷ q.done));
-  holds = q.holds;
-  untouched = untouched_within v a b h k q.untouched;
-}
 
 -- further writes that were to come are given up with it
 pub gave_up_within : {O : Type 0} (v : View O) (a b : O) (h k : Journal) (f : Fault) → GaveUp v a h f b → GaveUp v a (k ++ h) f b
@@ -218,30 +221,11 @@ pub gave_up_cut : {O : Type 0} (v : View O) (a b : O) (h : Journal) (f : Fault) 
 gave_up_cut v a b h fault.Shelf q = q
 gave_up_cut v a b h fault.Prog q = q
 gave_up_cut v a b h fault.Stat q = q
-gave_up_cut v a b h fault.OutOfMemory q = record {
-  done = q.done;
-  later = q.later ++ q.next ∷ [];
-  all = q.all ∙ sym (append_assoc q.later (q.next ∷ []) q.done);
-  holds = q.holds;
-  untouched = q.untouched;
-}
-
--- a list of missing writes that ends with its oldest one
-pub oldest : (w : Write) (later done : Journal) → (next : Write) × (more : Journal) × (w ∷ later ++ done ≡ more ++ next ∷ done)
-oldest w [] done = (w, [], refl)
-oldest w (x ∷ later) done = let q = oldest x later done in (q.0, w ∷ q.1, ap (λ l. w ∷ l) q.2)
+gave_up_cut v a b h fault.OutOfMemory q = inr q
 
 left_out_before : {O : Type 0} (v : View O) (a b : O) (w : Write) (h : Journal) → RanOut v a h b → LeftOut v a (w ∷ h) b
-left_out_before v a b w h q =
-    let p = oldest w q.later q.done in
-    record {
-      done = q.done;
-      next = p.0;
-      later = p.1;
-      all = ap (λ l. w ∷ l) q.all ∙ p.2;
-      holds = q.holds;
-      untouched = untouched_within v a b h (w ∷ []) q.untouched;
-    }
+left_out_before v a b w h (inl q) = wrote_left v a b h w [] q
+left_out_before v a b w h (inr q) = left_out_within v a b h (w ∷ []) q
 
 -- a cut is giving up where one more write was to come
 pub cut_gave_up : {O : Type 0} (v : View O) (a b : O) (w : Write) (h : Journal) (f : Fault) → Cut v a h f b → GaveUp v a (w ∷ h) f b

@@ -6,7 +6,7 @@ use Rattle.journal.specs.declared.fault.Fault.TheVariants as fault
 use Rattle.journal.specs.declared.loading.Found.{Found}
 use Rattle.journal.specs.Write.{Journal}
 use Rattle.journal.specs.View.{View, Stays, Holds, Untouched, Wrote, Failed, LeftOut, GaveUp, IsCalm}
-use Rattle.journal.specs.Load.{Input, Unloaded, GaveUpLoading}
+use Rattle.journal.specs.Load.{Input, Unloaded, UnloadedAt, GaveUpLoading}
 use Rattle.journal.specs.Outcome.{Outcome, Ends, EndsByFound, Comes}
 use Rattle.journal.specs.Parts.{through}
 
@@ -45,7 +45,7 @@ failed_through f place v a b h x e q = record {
 }
 
 left_through : {O Q : Type 0} (f : O → Q) (place : O → ℕ × ℕ × ℕ) (v : View Q) (a b : O) (h : Journal) → v.place (f b) ≡ v.place (f a) → LeftOut (through f place v) a h b → LeftOut v (f a) h (f b)
-left_through f place v a b h e q = record { done = q.done; next = q.next; later = q.later; all = q.all; holds = holds_through f place v a b _ e q.holds; untouched = untouched_through f place v a b h q.untouched }
+left_through f place v a b h e q = record { done = q.done; next = q.next; later = q.later; all = q.all; holds = holds_through f place v a b _ e q.holds; untouched = untouched_through f place v a b _ q.untouched }
 
 gave_up_through : {O Q : Type 0} (f : O → Q) (place : O → ℕ × ℕ × ℕ) (v : View Q) (a b : O) (h : Journal) (x : Fault) → v.place (f b) ≡ v.place (f a) → GaveUp (through f place v) a h x b → GaveUp v (f a) h x (f b)
 gave_up_through f place v a b h fault.Shelf e q = failed_through f place v a b h fault.Shelf e q
@@ -53,8 +53,8 @@ gave_up_through f place v a b h fault.Prog e q = failed_through f place v a b h 
 gave_up_through f place v a b h fault.Stat e q = failed_through f place v a b h fault.Stat e q
 gave_up_through f place v a b h fault.OutOfMemory e q = left_through f place v a b h e q
 
-unloaded_through : {O Q : Type 0} (f : O → Q) (place : O → ℕ × ℕ × ℕ) (v : View Q) (a b : O) (is : List Input) → v.place (f b) ≡ v.place (f a) → Unloaded (through f place v) a is b → Unloaded v (f a) is (f b)
-unloaded_through f place v a b is e q = record {
+unloaded_through : {O Q : Type 0} (f : O → Q) (place : O → ℕ × ℕ × ℕ) (v : View Q) (a b : O) (i : Input) → v.place (f b) ≡ v.place (f a) → Unloaded (through f place v) a i b → Unloaded v (f a) i (f b)
+unloaded_through f place v a b i e q = record {
   stays = stays_through f place v a b e q.stays;
   counts = q.counts;
   calm = q.calm;
@@ -65,8 +65,20 @@ unloaded_through f place v a b is e q = record {
   stat = q.stat;
 }
 
+unloaded_at_through : {O Q : Type 0} (f : O → Q) (place : O → ℕ × ℕ × ℕ) (v : View Q) (a b : O) (is : List Input) → v.place (f b) ≡ v.place (f a) → UnloadedAt (through f place v) a is b → UnloadedAt v (f a) is (f b)
+unloaded_at_through f place v a b is e q = record {
+  before = q.before;
+  failed = q.failed;
+  later = q.later;
+  all = q.all;
+  found = q.found;
+  are = q.are;
+  whole = q.whole;
+  unloaded = unloaded_through f place v a b q.failed e q.unloaded;
+}
+
 loading_through : {O Q : Type 0} (f : O → Q) (place : O → ℕ × ℕ × ℕ) (v : View Q) (a b : O) (is : List Input) (x : Fault) → v.place (f b) ≡ v.place (f a) → GaveUpLoading (through f place v) a is x b → GaveUpLoading v (f a) is x (f b)
-loading_through f place v a b is fault.Shelf e q = unloaded_through f place v a b is e q
+loading_through f place v a b is fault.Shelf e q = unloaded_at_through f place v a b is e q
 loading_through f place v a b is fault.Prog e q = q
 loading_through f place v a b is fault.Stat e q = q
 loading_through f place v a b is fault.OutOfMemory e q = wrote_through f place v a b _ e q

@@ -1,5 +1,5 @@
 -- How the files and streams of a command are seen, and what its calls do to them.
-use Rattle.std.specs.Prelude.{◌≡◌, ◌≤◌, ◌++◌, ℕ, List, ◌∷◌, Result, Ok, Err}
+use Rattle.std.specs.Prelude.{◌≡◌, ◌⊎◌, ◌≤◌, ◌++◌, ℕ, List, ◌∷◌, Result, Ok, Err}
 use Rattle.ss_base.specs.Outside.{Files, Rose}
 use Rattle.journal.specs.declared.fault.Fault.{Fault}
 use Rattle.journal.specs.declared.fault.Fault.TheVariants as fault
@@ -98,22 +98,18 @@ pub record Failed {O : Type 0} (v : View O) (a : O) (h : Journal) (f : Fault) (b
   pub report : v.stat.tells a → PartOfReport next (v.stat.contents a ++ report_of done) (v.stat.contents b)
   pub untouched : Untouched v a (next ∷ done) b
 
--- there was no memory for the rest of a journal, of which nothing is done
-pub record RanOut {O : Type 0} (v : View O) (a : O) (h : Journal) (b : O) : Type 0 where
-  pub done : Journal
-  pub later : Journal
-  pub all : h ≡ later ++ done
-  pub holds : Holds v a done b
-  pub untouched : Untouched v a h b
-
--- so it is, and at least one write is missing
+-- there was no memory for the rest of a journal, from one write on: nothing of that is done
 pub record LeftOut {O : Type 0} (v : View O) (a : O) (h : Journal) (b : O) : Type 0 where
   pub done : Journal
   pub next : Write
   pub later : Journal
   pub all : h ≡ later ++ next ∷ done
   pub holds : Holds v a done b
-  pub untouched : Untouched v a h b
+  pub untouched : Untouched v a (next ∷ done) b
+
+-- so it was, or the journal had no rest
+abbrev pub RanOut : {O : Type 0} → View O → O → Journal → O → Type 0
+RanOut v a h b = Wrote v a h b ⊎ LeftOut v a h b
 
 -- a journal was cut by a fault; where memory ran out it may yet be whole
 abbrev pub Cut : {O : Type 0} → View O → O → Journal → Fault → O → Type 0

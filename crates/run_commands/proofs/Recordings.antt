@@ -1,5 +1,5 @@
 -- What comes of a recording, by what its parts came to.
-use Rattle.std.proofs.Common.{◌≡◌, ◌<◌, ◌++◌, ℕ, List, [], ◌∷◌, length, get_or, Some, Result, Ok, Bor, refl, sym, ap, ◌∙◌, subst, append-nil}
+use Rattle.std.proofs.Common.{◌≡◌, ◌<◌, ◌++◌, ℕ, List, [], ◌∷◌, length, get_or, Some, Result, Ok, Err, Bor, refl, sym, ap, ◌∙◌, subst, append-nil}
 use Rattle.std.proofs.lemmas.List.{length-map, get_or-map}
 use Rattle.std.specs.Prelude.{map, string_bytes, option_copied, OnOk, Vec, String, unwrap_or}
 use Rattle.ecoff_load.specs.declared.image.Image.{Image}
@@ -13,7 +13,7 @@ use Rattle.journal.specs.declared.loading.Found.TheVariants as found
 use Rattle.journal.specs.View.{View}
 use Rattle.journal.specs.Load.{input, inputs, found_of, Finds, FoundAll, FoundLong}
 use Rattle.journal.specs.Outcome.{Outcome, Ends, Comes}
-use Rattle.journal.specs.Loading.{comes_after, comes_now, comes_map, comes_whole, comes_long}
+use Rattle.journal.specs.Loading.{comes_after, comes_too_long, comes_unloaded, comes_now, comes_map, comes_whole, comes_long}
 use Rattle.answers.specs.declared.answer.Answer.{Answer}
 use Rattle.answers.specs.declared.answer.Answer.TheVariants as answer
 use Rattle.answers.specs.Answer.{refused}
@@ -22,7 +22,7 @@ use Rattle.run_commands.specs.declared.world.Enclosed.{Enclosed}
 use Rattle.run_commands.specs.Outcome.{input_limit, named_input, object_limit, opened_inputs, world_of}
 use Rattle.run_commands.specs.Replay.{IsRecorded}
 use Rattle.run_commands.specs.Parts.{GivenRecords, LoadedRecords, ObjectRecords, RecordingOutcomeOf, enclosed, made_for, names_in, record_inputs_of, recorded_of}
-use Rattle.run_commands.proofs.Named.{named_found, named_long}
+use Rattle.run_commands.proofs.Named.{named_found, named_long, named_unloaded}
 use Rattle.run_commands.proofs.Replaying.{is_recorded}
 
 -- all files are loaded, and the object is one of an image
@@ -94,18 +94,28 @@ pub object_long : {O : Type 0} (v : View O) (a b c : O) (r : Record) (object nam
 object_long v a b c r object name result e finds rest =
     named_long v a b c input_limit (option_copied r.input) name (opened_inputs (names_in r)) (λ x others o. GivenRecords r object (unwrap_or x []) result others o) result e finds rest
 
+-- or it wasn't loaded
+pub object_unloaded : {O : Type 0} (v : View O) (a b : O) (r : Record) (object name : List ℕ) (f : Fault) → option_copied r.input ≡ Some name → Finds v a (input name input_limit) b (Err f)
+    → Comes v a (named_input input_limit (option_copied r.input) (opened_inputs (names_in r))) (ObjectRecords r object (Err f)) b (Err f)
+object_unloaded v a b r object name f e finds =
+    named_unloaded v a b input_limit (option_copied r.input) name (opened_inputs (names_in r)) (λ x others o. GivenRecords r object (unwrap_or x []) (Err f) others o) f e finds
+
 -- the object is loaded
 pub record_comes : {O : Type 0} (v : View O) (a b c : O) (r : Record) (object bytes : List ℕ) (result : Result Answer Fault) → bytes ≡ object
     → Finds v a (input r.object.now object_limit) b (Ok (found.Whole object)) → Comes v b (named_input input_limit (option_copied r.input) (opened_inputs (names_in r))) (ObjectRecords r bytes result) c result
     → Comes v a (record_inputs_of r) (RecordingOutcomeOf r result) c result
 record_comes v a b c r object bytes result e finds rest =
     let others = named_input input_limit (option_copied r.input) (opened_inputs (names_in r)) in
-    comes_after v a b c (input r.object.now object_limit) others (found.Whole object) (RecordingOutcomeOf r result) result finds (subst (λ x. Comes v b others (ObjectRecords r x result) c result) e rest)
+    comes_after v a b c (input r.object.now object_limit) others object (RecordingOutcomeOf r result) result finds (subst (λ x. Comes v b others (ObjectRecords r x result) c result) e rest)
 
 -- or it is too long
 pub record_long : {O : Type 0} (v : View O) (a b c : O) (r : Record) (result : Result Answer Fault)
     → Finds v a (input r.object.now object_limit) b (Ok found.TooLong) → Ends v b (refused (answer.TooLong r.object.now)) c result → Comes v a (record_inputs_of r) (RecordingOutcomeOf r result) c result
 record_long v a b c r result finds rest =
     let others = named_input input_limit (option_copied r.input) (opened_inputs (names_in r)) in
-    comes_after v a b c (input r.object.now object_limit) others found.TooLong (RecordingOutcomeOf r result) result finds
-    (comes_now v b others c (λ fs. RecordingOutcomeOf r result (found.TooLong ∷ fs)) (refused (answer.TooLong r.object.now)) result (λ fs. refl) rest)
+    comes_too_long v a b c (input r.object.now object_limit) others (RecordingOutcomeOf r result) (refused (answer.TooLong r.object.now)) result finds (λ fs. refl) rest
+
+-- or it wasn't loaded
+pub record_unloaded : {O : Type 0} (v : View O) (a b : O) (r : Record) (f : Fault) → Finds v a (input r.object.now object_limit) b (Err f) → Comes v a (record_inputs_of r) (RecordingOutcomeOf r (Err f)) b (Err f)
+record_unloaded v a b r f finds =
+    comes_unloaded v a b (input r.object.now object_limit) (named_input input_limit (option_copied r.input) (opened_inputs (names_in r))) (RecordingOutcomeOf r (Err f)) f finds

@@ -15,3 +15,4 @@ pub mod Parts
 pub mod Replays
 pub mod Recorded
 pub mod Decoding
+pub mod Recorders

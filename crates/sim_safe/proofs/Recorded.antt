@@ -66,8 +66,8 @@ ready_with p old new s (Ok true) e f t =
     ready_is old.world old.trace s true b ∙ taken_if true old.trace (serve old.world s) t.1 ∙ ap (λ x. Some (x.world, x.trace)) (sym t.0)
 ready_with p old new s (Ok false) e f t =
     let b : wants_record (step_of old.trace s) ≡ true = sym (peek_wants (step_of old.trace s)) ∙ ap is_end_of_trace (sym e) ∙ f in
-    (ready_is old.world old.trace s true b ∙ taken_if false old.trace (serve old.world s) t.1, ap (λ x. x.trace) t.0)
-ready_with p old new s (Err x) e f t = (ap (λ x. x.trace) t, sym (peek_wants (step_of old.trace s)) ∙ ap is_end_of_trace (sym e) ∙ f)
+    (ready_is old.world old.trace s true b ∙ taken_if false old.trace (serve old.world s) t.1, t.0)
+ready_with p old new s (Err x) e f t = (t, sym (peek_wants (step_of old.trace s)) ∙ ap is_end_of_trace (sym e) ∙ f)
 
 -- a trace that takes a record stays one with a file
 pub takes_file : (answer : Record × WorldState) (old new : RecorderState) (result : Result Bool OutOfMemory) → old.trace.file ≡ true → Takes answer old new result → new.trace.file ≡ true
@@ -80,7 +80,7 @@ pub prepared_true : (old new : RecorderState) (s : State) (b : Bool) → b ≡ t
 prepared_true old new s true e p = p
 prepared_true old new s false e p = cc
 
-pub prepared_false : (old new : RecorderState) (s : State) (b : Bool) → b ≡ false → Prepares old new s (Ok b) → (ready serve old.world old.trace s ≡ None) × (new.trace ≡ old.trace)
+pub prepared_false : (old new : RecorderState) (s : State) (b : Bool) → b ≡ false → Prepares old new s (Ok b) → (ready serve old.world old.trace s ≡ None) × (new ≡ old)
 prepared_false old new s true e p = cc
 prepared_false old new s false e p = p
 

@@ -53,7 +53,7 @@ impl Arch {
     }
 
     /// Has the next step's call recorded, where the trace has no record for it. False where the
-    /// trace is full.
+    /// trace is full. The recorder is then as it was, and so it is where memory runs out.
     #[tactic(auto, using(crate::proofs::Recorded::ready_without, crate::proofs::Recorded::ready_with, crate::proofs::Recorded::takes_file))]
     fn prepare(&self, alloc: Global, recorder: &mut Recorder) -> Result<bool, OutOfMemory>
         requires count { self.now.icnt ≤ 10 ^ 15 }
@@ -80,9 +80,13 @@ impl Arch {
     /// that is left does them again. They are the first steps of the whole recording, the one
     /// without a fault: the run over its trace begins with what was shown, and comes to this state.
     ///
+    /// The recorder has answered the calls of the steps that were done, and its world is the one after
+    /// them; a trace that was full, or memory that was wanting for a record, leaves it as it was. Where
+    /// memory was wanting for a step's writes, it may have answered the call of that step, too.
+    ///
     /// Where all that the steps write lies in reserved pages and each call finds its record, the run
     /// itself finds memory; over an observer that takes none it then never wants any.
-    #[tactic(auto, using(crate::proofs::Steps::items_none, crate::proofs::Steps::reaches_none, crate::proofs::Steps::after_all, crate::proofs::Steps::end_all))]
+    #[tactic(auto, using(crate::proofs::Steps::items_none, crate::proofs::Steps::reaches_none, crate::proofs::Steps::after_all, crate::proofs::Steps::end_all, crate::proofs::Recorders::goes_on_none))]
     pub fn record<O: Observer>(
         &mut self,
         alloc: Global,

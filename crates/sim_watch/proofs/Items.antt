@@ -1,6 +1,6 @@
 -- What is written of one item, and of further ones.
 use Rattle.std.specs.Prelude.{◌≡◌, ◌≤◌, ◌<◌, ◌+◌, ◌++◌, ℕ, Bool, true, false, List, [], ◌∷◌, length, Option, Some, None, if◌then◌else◌}
-use Rattle.std.proofs.Common.{refl, sym, ap, ◌∙◌, subst, append_assoc, append-nil, take, drop, get_or}
+use Rattle.std.proofs.Common.{refl, sym, ap, ◌∙◌, subst, inl, inr, append_assoc, append-nil, take, drop, get_or}
 use Rattle.std.proofs.lemmas.Bool.{le-ltb}
 use Rattle.std.proofs.lemmas.List.{take_more, take-append-drop}
 use Rattle.event_trace.specs.declared.trace.Block.{Block}
@@ -109,7 +109,8 @@ pub cut_faults : {O : Type 0} (v : View O) (a b : O) (h : Journal) (f : Fault) �
 cut_faults v a b h fault.Shelf l q = (q.counts.0.0, q.counts.0.1, q.counts.1)
 cut_faults v a b h fault.Prog l q = (q.counts.0, q.counts.1.0, q.counts.1.1)
 cut_faults v a b h fault.Stat l q = absurd (not_by v a b h fault.Stat l q)
-cut_faults v a b h fault.OutOfMemory l q = ap (λ (x : ℕ × ℕ × ℕ). let y : ℕ × ℕ = (x.0, x.1) in y) q.holds.counts
+cut_faults v a b h fault.OutOfMemory l (inl q) = ap (λ (x : ℕ × ℕ × ℕ). let y : ℕ × ℕ = (x.0, x.1) in y) q.holds.counts
+cut_faults v a b h fault.OutOfMemory l (inr q) = ap (λ (x : ℕ × ℕ × ℕ). let y : ℕ × ℕ = (x.0, x.1) in y) q.holds.counts
 
 pub lacks_more : (f : Fault) (k h : Journal) → Lacks f k → Lacks f h → Lacks f (k ++ h)
 lacks_more f [] h l m = m

@@ -56,11 +56,12 @@ fn observe_recording<O: Outside>(
 /// answered by its world and recorded. The first stream gets what the program emits, block by block.
 ///
 /// What was done is the run over the trace that it leaves; where that is full, the run ends before
-/// the call that found no room.
+/// the call that found no room. The recorder's world is the one after the calls of these steps.
 ///
 /// After a fault there is one number of steps that were done over the trace that is left: `arch` is
 /// as they leave it, and all writes of all but the last of them were done. They and that trace are a
-/// front of the whole recording, the one without a fault.
+/// front of the whole recording, the one without a fault. `recorder` has served their calls, and none
+/// more but where memory ran out: then it may have served that of the next step, which wasn't done.
 pub fn watched_record<O: Outside>(
     alloc: Global,
     arch: &mut Arch,

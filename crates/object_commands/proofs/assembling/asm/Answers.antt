@@ -1,7 +1,6 @@
 use Rattle.std.proofs.Common.{◌≡◌, List, ℕ, [], refl, subst}
-use Rattle.journal.specs.declared.loading.Found.TheVariants as found
 use Rattle.journal.specs.Outcome.{Comes}
-use Rattle.journal.specs.Loading.{comes_after, comes_now}
+use Rattle.journal.specs.Loading.{comes_after, comes_too_long}
 use Rattle.answers.specs.declared.answer.Answer.TheVariants as answer
 use Rattle.answers.specs.Answer.{refused}
 use Rattle.pisa_asm.specs.Passes.{described}
@@ -10,10 +9,9 @@ use Rattle.object_commands.proofs.assembling.asm.Goals as goal
 
 pub returns-in-Ok-Whole : goal.returns-in-Ok-Whole
 returns-in-Ok-Whole g c =
-    comes_after _ _ c.find_file.new.outside _ _ _ (found.Whole c.in-Ok-Whole.bytes) _ _ (rw c.in-Ok-Whole.field-0-is at c.in-Ok-Whole.ensures)
+    comes_after _ _ c.find_file.new.outside _ _ _ c.in-Ok-Whole.bytes _ _ (rw c.in-Ok-Whole.field-0-is at c.in-Ok-Whole.ensures)
     (subst (λ (x : List ℕ). Comes g.O.Outside.view c.find_file.new.outside [] (λ _ o. JudgesSource (described x) o (λ image. o ≡ object_made c.args.object.now image)) c.assemble_found.new.outside c.assemble_found.result) c.as_slice.ensures c.assemble_found.ensures)
 
 pub returns-in-Ok-TooLong : goal.returns-in-Ok-TooLong
 returns-in-Ok-TooLong g c =
-    comes_after _ _ c.find_file.new.outside _ _ _ found.TooLong _ _ (rw c.in-Ok-TooLong.field-0-is at c.in-Ok-TooLong.ensures)
-    (comes_now _ _ _ _ _ (refused (answer.TooLong c.args.source.now)) _ (λ fs. refl) c.refuse_long.ensures)
+    comes_too_long _ _ c.find_file.new.outside _ _ _ _ (refused (answer.TooLong c.args.source.now)) _ (rw c.in-Ok-TooLong.field-0-is at c.in-Ok-TooLong.ensures) (λ fs. refl) c.refuse_long.ensures

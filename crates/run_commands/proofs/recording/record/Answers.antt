@@ -1,4 +1,4 @@
-use Rattle.run_commands.proofs.Recordings.{record_comes, record_long}
+use Rattle.run_commands.proofs.Recordings.{record_comes, record_long, record_unloaded}
 use Rattle.run_commands.proofs.recording.record.Goals as goal
 
 pub returns-in-Ok-Whole : goal.returns-in-Ok-Whole
@@ -8,3 +8,6 @@ returns-in-Ok-Whole g c =
 pub returns-in-Ok-TooLong : goal.returns-in-Ok-TooLong
 returns-in-Ok-TooLong g c =
     record_long g.O.Outside.view c.args.outside.now c.find_file.new.outside c.refuse_long.new.outside c.args.request c.refuse_long.result (rw c.in-Ok-TooLong.field-0-is at c.in-Ok-TooLong.ensures) c.refuse_long.ensures
+
+pub returns-in-Err : goal.returns-in-Err
+returns-in-Err g c = record_unloaded g.O.Outside.view c.args.outside.now c.find_file.new.outside c.args.request c.in-Err.fault c.in-Err.ensures

@@ -1,9 +1,8 @@
-use Rattle.std.proofs.Common.{ℕ, List, [], ◌∷◌, refl, subst}
+use Rattle.std.proofs.Common.{ℕ, List, [], refl, subst}
 use Rattle.std.specs.Option.{option_copied}
-use Rattle.journal.specs.declared.loading.Found.TheVariants as found
 use Rattle.journal.specs.Load.{input}
 use Rattle.journal.specs.Outcome.{Comes}
-use Rattle.journal.specs.Loading.{comes_after, comes_now}
+use Rattle.journal.specs.Loading.{comes_after, comes_too_long, comes_unloaded}
 use Rattle.answers.specs.declared.answer.Answer.TheVariants as answer
 use Rattle.answers.specs.Answer.{refused}
 use Rattle.run_commands.specs.Outcome.{named_input, object_limit, trace_limit}
@@ -16,7 +15,7 @@ returns-in-Ok-Whole g c =
     let r = c.args.request in
     let others = named_input trace_limit (option_copied r.trace) [] in
     let P : List ℕ → Type 0 = λ x. Comes v c.find_file.new.outside others (ObjectRuns r x) c.run_object.new.outside c.run_object.result in
-    comes_after v c.args.outside.now c.find_file.new.outside c.run_object.new.outside (input r.object.now object_limit) others (found.Whole c.in-Ok-Whole.object) (SimSafeOutcomeOf r) c.run_object.result
+    comes_after v c.args.outside.now c.find_file.new.outside c.run_object.new.outside (input r.object.now object_limit) others c.in-Ok-Whole.object (SimSafeOutcomeOf r) c.run_object.result
     (rw c.in-Ok-Whole.field-0-is at c.in-Ok-Whole.ensures) (subst P c.as_slice.ensures c.run_object.ensures)
 
 pub returns-in-Ok-TooLong : goal.returns-in-Ok-TooLong
@@ -24,6 +23,10 @@ returns-in-Ok-TooLong g c =
     let v = g.O.Outside.view in
     let r = c.args.request in
     let others = named_input trace_limit (option_copied r.trace) [] in
-    comes_after v c.args.outside.now c.find_file.new.outside c.refuse_long.new.outside (input r.object.now object_limit) others found.TooLong (SimSafeOutcomeOf r) c.refuse_long.result
-    (rw c.in-Ok-TooLong.field-0-is at c.in-Ok-TooLong.ensures)
-    (comes_now v c.find_file.new.outside others c.refuse_long.new.outside (λ fs. SimSafeOutcomeOf r (found.TooLong ∷ fs)) (refused (answer.TooLong r.object.now)) c.refuse_long.result (λ fs. refl) c.refuse_long.ensures)
+    comes_too_long v c.args.outside.now c.find_file.new.outside c.refuse_long.new.outside (input r.object.now object_limit) others (SimSafeOutcomeOf r) (refused (answer.TooLong r.object.now)) c.refuse_long.result
+    (rw c.in-Ok-TooLong.field-0-is at c.in-Ok-TooLong.ensures) (λ fs. refl) c.refuse_long.ensures
+
+pub returns-in-Err : goal.returns-in-Err
+returns-in-Err g c =
+    let r = c.args.request in
+    comes_unloaded g.O.Outside.view c.args.outside.now c.find_file.new.outside (input r.object.now object_limit) (named_input trace_limit (option_copied r.trace) []) (SimSafeOutcomeOf r) c.in-Err.fault c.in-Err.ensures

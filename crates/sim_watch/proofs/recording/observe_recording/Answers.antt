@@ -10,7 +10,7 @@ use Rattle.sim_watch.specs.Recorded.{made_of}
 use Rattle.sim_watch.proofs.Steps.{steps_counted}
 use Rattle.sim_watch.proofs.Totals.{statistics_whole}
 use Rattle.sim_watch.proofs.Runs.{kept_cut, newest_cut, memory_cut, memory_behind, from_nothing, unnamed_cut, unnamed_wrote}
-use Rattle.sim_watch.proofs.Recordings.{recording_written, recording_cut, run_recorded}
+use Rattle.sim_watch.proofs.Recordings.{recording_written, recording_cut, run_recorded, refused_stands}
 use Rattle.sim_watch.proofs.recording.observe_recording.Goals as goal
 
 pub returns-in-Ok-clause-same : goal.returns-in-Ok-clause-same
@@ -59,7 +59,7 @@ returns-in-Err-Watch-clause-writes g c =
     let h = onto (items_of new.trace done s) [] in
     let t = rw c.in-Err-Watch.field-0-is at (c.in-Err-Watch.ensures.took c.args.watch.now [] (record { outside_same = refl; file = refl; pending = nothing_pending (option_copied c.args.watch.now.file.now) c.args.watch.now.pending.now.items; wrote = nothing_written g.O.Outside.view c.args.watch.now.outside.now (option_copied c.args.watch.now.file.now) c.args.watch.now.pending.now.items; statistics = λ e l. e })) in
     let r = c.unwrap_or.result in
-    recording_cut v a b whole new.trace c.args.n done s last r c.in-Err-Watch.ensures.trace (newest_cut v None [] a b h r (unnamed_cut v file a b h r c.requires.file (kept_cut v file was a b h c.record.new.o.fault c.in-Err-Watch.fault r c.requires.pending c.unwrap_or.ensures t.cut)))
+    recording_cut v a b whole new.trace c.args.n done s last r (rw c.in-Err-Watch.field-0-is at c.in-Err-Watch.ensures.trace).0 (newest_cut v None [] a b h r (unnamed_cut v file a b h r c.requires.file (kept_cut v file was a b h c.record.new.o.fault c.in-Err-Watch.fault r c.requires.pending c.unwrap_or.ensures t.cut)))
 
 pub returns-in-Err-Watch-clause-ends : goal.returns-in-Err-Watch-clause-ends
 returns-in-Err-Watch-clause-ends g c =
@@ -77,12 +77,14 @@ returns-in-Err-Watch-clause-ends g c =
     let h = onto (items_of new.trace done s) [] in
     let t = rw c.in-Err-Watch.field-0-is at (c.in-Err-Watch.ensures.took c.args.watch.now [] (record { outside_same = refl; file = refl; pending = nothing_pending (option_copied c.args.watch.now.file.now) c.args.watch.now.pending.now.items; wrote = nothing_written g.O.Outside.view c.args.watch.now.outside.now (option_copied c.args.watch.now.file.now) c.args.watch.now.pending.now.items; statistics = λ e l. e })) in
     let st = rw c.in-Err-Watch.field-0-is at c.in-Err-Watch.ensures.state in
+    let left = rw c.in-Err-Watch.field-0-is at c.in-Err-Watch.ensures.trace in
     record {
       done = done;
       most = st.1;
       state = st.0;
       count = steps_counted c.steps_keep.ensures new.trace done s last st.0 refl;
-      front = c.in-Err-Watch.ensures.trace;
+      front = left.0;
+      recorder = refused_stands c.unwrap_or.result done old s new last left.1;
       at = inl (unnamed_cut v file a b h c.unwrap_or.result c.requires.file (kept_cut v file was a b h c.record.new.o.fault c.in-Err-Watch.fault c.unwrap_or.result c.requires.pending c.unwrap_or.ensures t.cut));
     }
 
@@ -106,7 +108,7 @@ returns-in-Err-OutOfMemory-clause-writes g c =
     let whole = (made_of old c.args.n s).0 in
     let h = onto (items_of new.trace done s) [] in
     let t = rw c.in-Err-OutOfMemory.field-0-is at (c.in-Err-OutOfMemory.ensures.took c.args.watch.now [] (record { outside_same = refl; file = refl; pending = nothing_pending (option_copied c.args.watch.now.file.now) c.args.watch.now.pending.now.items; wrote = nothing_written g.O.Outside.view c.args.watch.now.outside.now (option_copied c.args.watch.now.file.now) c.args.watch.now.pending.now.items; statistics = λ e l. e })) in
-    recording_cut v a b whole new.trace c.args.n done s last fault.OutOfMemory c.in-Err-OutOfMemory.ensures.trace (memory_cut v a b (written_of None [] h).journal (unnamed_wrote v file a b h c.requires.file (from_nothing v file was a b h c.requires.pending t.wrote)))
+    recording_cut v a b whole new.trace c.args.n done s last fault.OutOfMemory (rw c.in-Err-OutOfMemory.field-0-is at c.in-Err-OutOfMemory.ensures.trace).0 (memory_cut v a b (written_of None [] h).journal (unnamed_wrote v file a b h c.requires.file (from_nothing v file was a b h c.requires.pending t.wrote)))
 
 pub returns-in-Err-OutOfMemory-clause-ends : goal.returns-in-Err-OutOfMemory-clause-ends
 returns-in-Err-OutOfMemory-clause-ends g c =
@@ -124,11 +126,13 @@ returns-in-Err-OutOfMemory-clause-ends g c =
     let h = onto (items_of new.trace done s) [] in
     let t = rw c.in-Err-OutOfMemory.field-0-is at (c.in-Err-OutOfMemory.ensures.took c.args.watch.now [] (record { outside_same = refl; file = refl; pending = nothing_pending (option_copied c.args.watch.now.file.now) c.args.watch.now.pending.now.items; wrote = nothing_written g.O.Outside.view c.args.watch.now.outside.now (option_copied c.args.watch.now.file.now) c.args.watch.now.pending.now.items; statistics = λ e l. e })) in
     let st = rw c.in-Err-OutOfMemory.field-0-is at c.in-Err-OutOfMemory.ensures.state in
+    let left = rw c.in-Err-OutOfMemory.field-0-is at c.in-Err-OutOfMemory.ensures.trace in
     record {
       done = done;
       most = st.1;
       state = st.0;
       count = steps_counted c.steps_keep.ensures new.trace done s last st.0 refl;
-      front = c.in-Err-OutOfMemory.ensures.trace;
+      front = left.0;
+      recorder = left.1;
       at = inr (memory_behind v a b (written_of None [] h).journal [] (unnamed_wrote v file a b h c.requires.file (from_nothing v file was a b h c.requires.pending t.wrote)));
     }

@@ -1,12 +1,12 @@
-use Rattle.std.proofs.Common.{◌≡◌, ◌+◌, ◌-◌, ◌≤◌, ℕ, List}
+use Rattle.std.proofs.Common.{◌≡◌, ◌+◌, ◌≤◌, ℕ, List}
 use Rattle.event_trace.specs.Recorder.{next_count}
 use Rattle.sim_safe.specs.State.{state_of}
 use Rattle.paged_mem.specs.Memory.{IsReserved}
 use Rattle.sim_safe.specs.Record.{Item}
 use Rattle.sim_safe.specs.Commit.{onto}
 use Rattle.sim_safe.specs.Run.{items_of}
-use Rattle.sim_safe.specs.Recording.{recording, serve}
 use Rattle.sim_safe.proofs.Steps.{Reaches}
+use Rattle.sim_safe.proofs.Recorders.{GoesOn}
 use Rattle.sim_safe.proofs.arch.Arch.record.Given as goal
 
 abbrev pub invariant-loop-done : goal.invariant-loop-done
@@ -20,5 +20,5 @@ invariant-loop-done g l =
       pages : (number : ℕ) → IsReserved l.fn.self.pages number → IsReserved l.self.pages number;
       memory : O.takes_no_memory l.fn.o → O.takes_no_memory l.o;
       rising : next_count 0 l.recorder.trace.records ≤ l.self.icnt;
-      calls : recording serve (l.n - l.done) l.recorder.world l.recorder.trace (state_of l.self) ≡ recording serve l.n l.fn.recorder.world l.fn.recorder.trace (state_of l.fn.self);
+      calls : GoesOn l.fn.recorder l.done (state_of l.fn.self) l.recorder (state_of l.self);
     }
