@@ -52,9 +52,9 @@ writes_in_order o a b d p e regs same write high low all = record {
   reads = λ s. all.reads s
       ∙ (ap (λ (ws : List (ℕ × ℕ)). with_regs (seen s d) ws) same
       ∙ (ap (λ (r : Reader). with_regs r e.regs.items)
-          (low.reads s
-          ∙ ap (λ (r : Reader). with_lo r (unwrap_or e.lo r.lo))
-              (high.reads s ∙ ap (λ (r : Reader). with_hi r (unwrap_or e.hi r.hi)) (write.reads s)))
+      (low.reads s
+      ∙ ap (λ (r : Reader). with_lo r (unwrap_or e.lo r.lo))
+      (high.reads s ∙ ap (λ (r : Reader). with_hi r (unwrap_or e.hi r.hi)) (write.reads s)))
       ∙ in_order (seen s o) e.next e.taken e.regs e.hi e.lo e.mem e.access));
   applied = omega (arith, write.applied, high.applied, low.applied, all.applied);
   size = all.size ∙ (low.size ∙ (high.size ∙ write.size));

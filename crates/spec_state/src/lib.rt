@@ -9,6 +9,8 @@
 
 mod laws;
 mod overlay;
+#[cfg(test)]
+mod tests;
 mod view;
 
 pub use laws::{effects_lie_in_blocks, two_rollbacks_are_one, wrong_paths_read_as_copies};

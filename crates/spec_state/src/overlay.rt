@@ -113,7 +113,11 @@ impl Overlay {
         requires { r < 32 }
         ensures { result ≡ slice_index_or (None ∷ self.now.regs) r None }
     {
-        if r == 0 { None } else { self.regs[r as usize - 1] }
+        if r == 0 {
+            None
+        } else {
+            self.regs[r as usize - 1]
+        }
     }
 
     /// HI, where it was written.
