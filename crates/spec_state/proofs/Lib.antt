@@ -1,0 +1,3 @@
+pub mod Blocks
+pub mod Over
+pub mod Paths
