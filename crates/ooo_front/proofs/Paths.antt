@@ -22,7 +22,7 @@ first_last r xs = reverse-append (r ∷ []) xs
 length_all_but : (xs : List FetchRow) (r : FetchRow) → length (xs ++ r ∷ []) - 1 ≡ length xs
 length_all_but xs r = omega (arith, length-append xs (r ∷ []))
 
-last_of : (xs : List FetchRow) (r : FetchRow) → oldest (xs ++ r ∷ []) ≡ Some r
+pub last_of : (xs : List FetchRow) (r : FetchRow) → oldest (xs ++ r ∷ []) ≡ Some r
 last_of xs r = ap (λ n. slice_get (xs ++ r ∷ []) n) (length_all_but xs r) ∙ at_end xs
   where
     at_end : (xs : List FetchRow) → slice_get (xs ++ r ∷ []) (length xs) ≡ Some r

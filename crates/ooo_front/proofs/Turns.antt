@@ -46,7 +46,7 @@ pub record IsAnswered (c : HierConfig) (p : PredConfig) (text : Text) (at : ℕ)
   pub front : f ≡ s.front
   pub words : ab ≡ words_at text f.pc
   pub look : answer ≡ look_of p s.events f.pc (looked_up ab.0 ab.1)
-  pub queued : there ≡ queued_at c p text at f.pc s.references
+  pub queued : there ≡ queued_at c text at f.pc s.references
 
 module _ (c : HierConfig) (p : PredConfig) (text : Text) (cycle : ℕ) where
   pub row_is_next : (s : Stage) (f : FrontEnd) (words : ℕ × ℕ) (look : Look) (queued : ℕ) → IsAnswered c p text cycle s f words look queued
@@ -67,19 +67,19 @@ module _ (c : HierConfig) (p : PredConfig) (text : Text) (cycle : ℕ) where
           ∙ (ap (λ (x : FrontEnd). look_of p s.events x.pc (looked_up words.0 words.1)) a.front
           ∙ ap (λ (w : ℕ × ℕ). look_of p s.events s.front.pc (looked_up w.0 w.1)) same_words)
 
-      same_queued : queued ≡ queued_at c p text cycle s.front.pc s.references
-      same_queued = a.queued ∙ ap (λ (x : FrontEnd). queued_at c p text cycle x.pc s.references) a.front
+      same_queued : queued ≡ queued_at c text cycle s.front.pc s.references
+      same_queued = a.queued ∙ ap (λ (x : FrontEnd). queued_at c text cycle x.pc s.references) a.front
 
   pub stands_next : (s : Stage) (f old new : FrontEnd) (h' : Held) (v' : Predictor) (words : ℕ × ℕ) (look : Look) (queued : ℕ) → f ≡ old
       → IsAnswered c p text cycle s f words look queued
       → new ≡ with_row (row_with f cycle words look queued) old
-      → StandsFor h' c (with_reference c p text cycle f.pc s.references)
+      → StandsFor h' c (with_reference text cycle f.pc s.references)
       → pred.StandsFor v' p (LookUp f.pc (looked_up words.0 words.1) ∷ s.events)
       → Stands new h' v' c p (fetch_one c p text cycle s)
   stands_next s f old new h' v' words look queued v a e refers looks =
       record {
         front = e ∙ (ap (λ r. with_row r old) (row_is_next s f words look queued a) ∙ ap (with_row (next_row c p text cycle s)) (sym v ∙ a.front));
-        hierarchy = subst (λ (x : FrontEnd). StandsFor h' c (with_reference c p text cycle x.pc s.references)) a.front refers;
+        hierarchy = subst (λ (x : FrontEnd). StandsFor h' c (with_reference text cycle x.pc s.references)) a.front refers;
         predictor =
           subst (λ (x : FrontEnd). pred.StandsFor v' p (LookUp x.pc (looked_up (words_at text x.pc).0 (words_at text x.pc).1) ∷ s.events)) a.front
           (subst (λ (w : ℕ × ℕ). pred.StandsFor v' p (LookUp f.pc (looked_up w.0 w.1) ∷ s.events)) a.words looks);

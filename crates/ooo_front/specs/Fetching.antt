@@ -56,15 +56,17 @@ with_row r f = record f { rows = r ∷ f.rows; row = r.row + 1; pc = r.next; ear
 abbrev pub may_fetch : ℕ → FrontEnd → Bool
 may_fetch cycle f = nat_le f.earliest cycle && nat_lt (length f.rows) f.size
 
+-- the references after the fetch of the row at this address: one more for an instruction in text
+abbrev pub with_reference : Text → ℕ → ℕ → List Reference → List Reference
+with_reference text cycle pc h = if is_some (fetch text pc) then Fetch pc cycle ∷ h else h
+
+-- The cycle in which the row at this address is queued. For an instruction in text its reference is waited for, but not
+-- what the first level takes for a lookup.
+abbrev pub queued_at : HierConfig → Text → ℕ → ℕ → List Reference → ℕ
+queued_at c text cycle pc h =
+    if is_some (fetch text pc) then cycle + (latency_of c h (Fetch pc cycle) - fetch_hit_of c) else cycle
+
 module _ (c : HierConfig) (p : PredConfig) (text : Text) (cycle : ℕ) where
-  -- a reference is made for an instruction in text, and the row is queued when it is there: what its first level takes
-  -- for a lookup is not waited for
-  abbrev pub with_reference : ℕ → List Reference → List Reference
-  with_reference pc h = if is_some (fetch text pc) then Fetch pc cycle ∷ h else h
-
-  abbrev pub queued_at : ℕ → List Reference → ℕ
-  queued_at pc h = if is_some (fetch text pc) then cycle + (latency_of c h (Fetch pc cycle) - fetch_hit_of c) else cycle
-
   -- the next row, where it is fetched in this cycle
   unfoldable pub next_row : Stage → FetchRow
   next_row s =
@@ -78,7 +80,7 @@ module _ (c : HierConfig) (p : PredConfig) (text : Text) (cycle : ℕ) where
         next = look.next;
         top = look.top;
         fetched = cycle;
-        queued = queued_at s.front.pc s.references;
+        queued = queued_at c text cycle s.front.pc s.references;
       }
 
   abbrev pub fetch_one : Stage → Stage
@@ -86,7 +88,7 @@ module _ (c : HierConfig) (p : PredConfig) (text : Text) (cycle : ℕ) where
       let words = words_at text s.front.pc in
       record {
         front = with_row (next_row s) s.front;
-        references = with_reference s.front.pc s.references;
+        references = with_reference text cycle s.front.pc s.references;
         events = LookUp s.front.pc (looked_up words.0 words.1) ∷ s.events;
       }
 

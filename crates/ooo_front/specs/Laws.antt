@@ -61,3 +61,9 @@ pub record GoesOnThere (c : HierConfig) (p : PredConfig) (text : Text) (pc earli
   pub idle : IsIdle (redirect pc earliest s) (cycles c p text before (redirect pc earliest s))
   pub begins : (cycle : ℕ) → earliest ≤ cycle → 0 < s.front.width → 0 < s.front.size
       → Begins (fetch_cycle c p text cycle (cycles c p text before (redirect pc earliest s))) s.front.row pc cycle
+
+-- A row is queued when its reference is there, less what its first level takes for a lookup, and never later than the
+-- greatest latency says.
+pub record IsQueuedSo (c : HierConfig) (text : Text) (h : List Reference) (pc cycle : ℕ) : Type 0 where
+  pub there : is_some (fetch text pc) ≡ true → queued_at c text cycle pc h + fetch_hit_of c ≡ cycle + latency_of c h (Fetch pc cycle)
+  pub most : queued_at c text cycle pc h + fetch_hit_of c ≤ cycle + greatest_fetch_of c

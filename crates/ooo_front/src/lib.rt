@@ -9,7 +9,12 @@
 #![tactic(auto)]
 
 mod front;
+mod laws;
 mod row;
 
 pub use front::Front;
+pub use laws::{
+    cycles_add_their_rows, paths_are_in_order, redirected_fronts_go_on_there,
+    rows_are_queued_by_their_references,
+};
 pub use row::FetchRow;
