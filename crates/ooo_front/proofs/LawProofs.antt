@@ -109,27 +109,28 @@ module _ (c : HierConfig) (p : PredConfig) (text : Text) (cycle : ℕ) where
       let r = next_row c p text cycle s in
       let fresh = a.0 in
       let h : Adds text cycle n (fetch_one c p text cycle s) s' fresh = a.1 in
-      let long : length (fresh ++ r ∷ []) ≡ length fresh + 1 = length-append fresh (r ∷ []) in
-      (fresh ++ r ∷ [],
-      record {
-        rows = h.rows ∙ sym (append_assoc fresh (r ∷ []) s.front.rows);
-        references =
-          h.references
-          ∙ (ap (λ l. filter_map (reference_of text) fresh ++ l) (next_reference s)
-          ∙ (sym (append_assoc (filter_map (reference_of text) fresh) (filter_map (reference_of text) (r ∷ [])) s.references)
-          ∙ ap (λ l. l ++ s.references) (sym (filter_map-append (reference_of text) fresh (r ∷ [])))));
-        events =
-          h.events
-          ∙ (ap (λ l. map lookup_of fresh ++ l) (next_lookup s)
-          ∙ (sym (append_assoc (map lookup_of fresh) (lookup_of r ∷ []) s.events)
-          ∙ ap (λ l. l ++ s.events) (sym (map-append lookup_of fresh (r ∷ [])))));
-        fetched = All-push (λ (x : FetchRow). x.fetched ≡ cycle) fresh r h.fetched (next_fetched s);
-        most = omega (arith, h.most, long);
-        room = λ le. h.room (room_for s.front may);
-        on = behind s fresh a.2 h.on;
-        whole = λ lt. h.whole (omega (arith, long, lt));
-      },
-      λ no. absurd (let both : true ≡ false = sym may ∙ no in cc))
+      let long : length (fresh ++ r ∷ []) ≡ length fresh + 1 = length-append fresh (r ∷ []) in (
+        fresh ++ r ∷ [],
+        record {
+          rows = h.rows ∙ sym (append_assoc fresh (r ∷ []) s.front.rows);
+          references =
+              h.references
+              ∙ (ap (λ l. filter_map (reference_of text) fresh ++ l) (next_reference s)
+              ∙ (sym (append_assoc (filter_map (reference_of text) fresh) (filter_map (reference_of text) (r ∷ [])) s.references)
+              ∙ ap (λ l. l ++ s.references) (sym (filter_map-append (reference_of text) fresh (r ∷ [])))));
+          events =
+              h.events
+              ∙ (ap (λ l. map lookup_of fresh ++ l) (next_lookup s)
+              ∙ (sym (append_assoc (map lookup_of fresh) (lookup_of r ∷ []) s.events)
+              ∙ ap (λ l. l ++ s.events) (sym (map-append lookup_of fresh (r ∷ [])))));
+          fetched = All-push (λ (x : FetchRow). x.fetched ≡ cycle) fresh r h.fetched (next_fetched s);
+          most = omega (arith, h.most, long);
+          room = λ le. h.room (room_for s.front may);
+          on = behind s fresh a.2 h.on;
+          whole = λ lt. h.whole (omega (arith, long, lt));
+        },
+        λ no. absurd (let both : true ≡ false = sym may ∙ no in cc),
+      )
 
   added_turns : (n : ℕ) (s : Stage) → Added n s (fetch_up_to c p text cycle n s)
   unfolding Added
@@ -146,18 +147,19 @@ module _ (c : HierConfig) (p : PredConfig) (text : Text) (cycle : ℕ) where
   unfolding Added
   adds_rows s =
       let a = added_turns s.front.width (at (cycle + 1) s) in
-      let h : Adds text cycle s.front.width (at (cycle + 1) s) (fetch_cycle c p text cycle s) a.0 = a.1 in
-      (a.0,
-      record {
-        rows = h.rows;
-        references = h.references;
-        events = h.events;
-        fetched = h.fetched;
-        most = h.most;
-        room = h.room;
-        on = h.on;
-        whole = h.whole;
-      })
+      let h : Adds text cycle s.front.width (at (cycle + 1) s) (fetch_cycle c p text cycle s) a.0 = a.1 in (
+        a.0,
+        record {
+          rows = h.rows;
+          references = h.references;
+          events = h.events;
+          fetched = h.fetched;
+          most = h.most;
+          room = h.room;
+          on = h.on;
+          whole = h.whole;
+        },
+      )
 
   -- ---- redirections
 
@@ -194,14 +196,14 @@ goes_on_there c p text pc earliest before s early =
     record {
       idle = subst (IsIdle (redirect pc earliest s)) (sym w.1) (record { rows = refl; references = refl; events = refl });
       begins = λ cycle le wide room.
-        subst (λ (x : Stage). Begins (fetch_cycle c p text cycle x) s.front.row pc cycle) (sym w.1)
-        (record {
-          first = next_row c p text cycle (at (cycle + 1) (redirect pc earliest s));
-          waits = first_from c p text cycle s.front.width (at (cycle + 1) (redirect pc earliest s)) wide (may cycle le room) refl;
-          row = next_number c p text cycle (at (cycle + 1) (redirect pc earliest s));
-          pc = next_pc c p text cycle (at (cycle + 1) (redirect pc earliest s));
-          fetched = next_fetched c p text cycle (at (cycle + 1) (redirect pc earliest s));
-        });
+          subst (λ (x : Stage). Begins (fetch_cycle c p text cycle x) s.front.row pc cycle) (sym w.1)
+          (record {
+            first = next_row c p text cycle (at (cycle + 1) (redirect pc earliest s));
+            waits = first_from c p text cycle s.front.width (at (cycle + 1) (redirect pc earliest s)) wide (may cycle le room) refl;
+            row = next_number c p text cycle (at (cycle + 1) (redirect pc earliest s));
+            pc = next_pc c p text cycle (at (cycle + 1) (redirect pc earliest s));
+            fetched = next_fetched c p text cycle (at (cycle + 1) (redirect pc earliest s));
+          });
     }
   where
     may : (cycle : ℕ) → earliest ≤ cycle → 0 < s.front.size → (nat_le earliest cycle && nat_lt 0 s.front.size) ≡ true

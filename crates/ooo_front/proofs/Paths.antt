@@ -57,10 +57,11 @@ path_later (r ∷ older) row pc m n le h =
 
 pub path_put : (f : FrontEnd) (r : FetchRow) (cycle : ℕ) → IsPath f.rows f.row f.pc f.earliest → IsNext f r cycle → f.earliest ≤ r.fetched → r.fetched ≤ r.queued
     → IsPath (r ∷ f.rows) (r.row + 1) r.next (earliest_after r)
-path_put f r cycle h next le later =
-    (record { row = refl; pc = refl; cycle = omega arith; queued = later },
-    subst (λ n. IsPath f.rows n r.pc r.fetched) (sym next.row)
-    (subst (λ a. IsPath f.rows f.row a r.fetched) (sym next.pc) (path_later f.rows f.row f.pc f.earliest r.fetched le h)))
+path_put f r cycle h next le later = (
+  record { row = refl; pc = refl; cycle = omega arith; queued = later },
+  subst (λ n. IsPath f.rows n r.pc r.fetched) (sym next.row)
+      (subst (λ a. IsPath f.rows f.row a r.fetched) (sym next.pc) (path_later f.rows f.row f.pc f.earliest r.fetched le h)),
+)
 
 pub path_front : (rows : List FetchRow) (r : FetchRow) (row pc cycle : ℕ) → IsPath (rows ++ r ∷ []) row pc cycle → IsPath rows row pc cycle
 path_front [] r row pc cycle h = tt
@@ -92,6 +93,7 @@ pub path_above : (rows : List FetchRow) (r : FetchRow) (row pc cycle : ℕ) → 
 path_above [] r row pc cycle h =
     (All-cons (λ (x : FetchRow). r.queued ≤ x.queued) r [] (omega arith) (All-nil (λ (x : FetchRow). r.queued ≤ x.queued)), omega (arith, earliest_bounds r h.0.queued, h.0.cycle))
 path_above (x ∷ rows) r row pc cycle h =
-    let rest = path_above rows r x.row x.pc x.fetched h.1 in
-    (All-cons (λ (y : FetchRow). r.queued ≤ y.queued) x (rows ++ r ∷ []) (omega (arith, rest.1, h.0.queued)) rest.0,
-    omega (arith, rest.1, h.0.queued, earliest_bounds x h.0.queued, h.0.cycle))
+    let rest = path_above rows r x.row x.pc x.fetched h.1 in (
+      All-cons (λ (y : FetchRow). r.queued ≤ y.queued) x (rows ++ r ∷ []) (omega (arith, rest.1, h.0.queued)) rest.0,
+      omega (arith, rest.1, h.0.queued, earliest_bounds x h.0.queued, h.0.cycle),
+    )

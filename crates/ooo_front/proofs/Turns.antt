@@ -81,8 +81,8 @@ module _ (c : HierConfig) (p : PredConfig) (text : Text) (cycle : ℕ) where
         front = e ∙ (ap (λ r. with_row r old) (row_is_next s f words look queued a) ∙ ap (with_row (next_row c p text cycle s)) (sym v ∙ a.front));
         hierarchy = subst (λ (x : FrontEnd). StandsFor h' c (with_reference text cycle x.pc s.references)) a.front refers;
         predictor =
-          subst (λ (x : FrontEnd). pred.StandsFor v' p (LookUp x.pc (looked_up (words_at text x.pc).0 (words_at text x.pc).1) ∷ s.events)) a.front
-          (subst (λ (w : ℕ × ℕ). pred.StandsFor v' p (LookUp f.pc (looked_up w.0 w.1) ∷ s.events)) a.words looks);
+            subst (λ (x : FrontEnd). pred.StandsFor v' p (LookUp x.pc (looked_up (words_at text x.pc).0 (words_at text x.pc).1) ∷ s.events)) a.front
+            (subst (λ (w : ℕ × ℕ). pred.StandsFor v' p (LookUp f.pc (looked_up w.0 w.1) ∷ s.events)) a.words looks);
       }
 
   -- ---- a cycle
@@ -121,6 +121,6 @@ module _ (c : HierConfig) (p : PredConfig) (text : Text) (cycle : ℕ) where
         now = fetch_one c p text cycle u.now;
         stands = next u.now u.stands;
         rest =
-          sym (turn_taken c p text cycle m u.now (ap (may_fetch cycle) (sym u.stands.front) ∙ may))
-          ∙ (sym (ap (λ k. fetch_up_to c p text cycle k u.now) e) ∙ u.rest);
+            sym (turn_taken c p text cycle m u.now (ap (may_fetch cycle) (sym u.stands.front) ∙ may))
+            ∙ (sym (ap (λ k. fetch_up_to c p text cycle k u.now) e) ∙ u.rest);
       }

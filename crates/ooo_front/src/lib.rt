@@ -11,6 +11,8 @@
 mod front;
 mod laws;
 mod row;
+#[cfg(test)]
+mod tests;
 
 pub use front::Front;
 pub use laws::{

@@ -20,8 +20,8 @@ returns-clause-stands c = λ config p s st.
       words = c.unwrap_or-a.ensures ∙ ap (λ o. unwrap_or o (0, 0)) c.at-words.ensures.words;
       look = c.lookup-look.ensures.answer p s.events st.predictor ∙ ap (look_of p s.events c.self.inside.pc) c.looked_up.ensures;
       queued =
-        c.queue_cycle-queued.ensures.answer config s.references st.hierarchy
-        ∙ ap (λ b. cond b (c.args.cycle + (latency_of config s.references (Fetch c.self.inside.pc c.args.cycle) - fetch_hit_of config)) c.args.cycle) found;
+          c.queue_cycle-queued.ensures.answer config s.references st.hierarchy
+          ∙ ap (λ b. cond b (c.args.cycle + (latency_of config s.references (Fetch c.self.inside.pc c.args.cycle) - fetch_hit_of config)) c.args.cycle) found;
     })
     c.put.ensures
     (subst (λ b. StandsFor c.queue_cycle-queued.new.hier config (cond b (Fetch c.self.inside.pc c.args.cycle ∷ s.references) s.references)) found (c.queue_cycle-queued.ensures.stands config s.references st.hierarchy))

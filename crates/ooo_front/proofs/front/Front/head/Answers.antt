@@ -13,9 +13,11 @@ pub returns-in-None-clause-order : goal.returns-in-None-clause-order
 returns-in-None-clause-order c = head_order (shown c.self.inside) c.args.self.now c.self.view_is c.self.invariant
 
 pub returns-else-row-cycle-clause-none : goal.returns-else-row-cycle-clause-none
-returns-else-row-cycle-clause-none c =
-    (λ _. head_all c.args.cycle c.self.inside.queue c.self.inside.width c.self.inside.row c.self.inside.pc c.self.inside.earliest c.self.inside.cycle c.args.self.now
-    c.in-Some.row.now c.self.view_is c.in-Some.ensures c.if-row-cycle.false c.self.invariant, λ _. refl)
+returns-else-row-cycle-clause-none c = (
+  λ _. head_all c.args.cycle c.self.inside.queue c.self.inside.width c.self.inside.row c.self.inside.pc c.self.inside.earliest c.self.inside.cycle c.args.self.now
+      c.in-Some.row.now c.self.view_is c.in-Some.ensures c.if-row-cycle.false c.self.invariant,
+  λ _. refl,
+)
 
 pub returns-in-None-clause-row : goal.returns-in-None-clause-row
 returns-in-None-clause-row c =
