@@ -1,14 +1,14 @@
 -- The clauses of the calls, over the ring as it lies.
-use Rattle.std.proofs.Common.{◌≡◌, ℕ, ◌+◌, ◌-◌, ◌^◌, ◌<◌, ◌≤◌, Some, None, cond, Bool, true, false, List, [], ◌∷◌, ◌++◌, All, length, take, drop, refl, sym, ap, subst, ◌∙◌, arith, length-append, length-drop}
-use Rattle.std.specs.Prelude.{reverse, slice_get, Option, nat_lt, if◌then◌else◌}
+use Rattle.std.proofs.Common.{◌≡◌, ℕ, ◌+◌, ◌<◌, ◌≤◌, Some, None, cond, List, [], ◌∷◌, ◌++◌, All, length, drop, sym, ap, subst, ◌∙◌, arith, length-drop}
+use Rattle.std.specs.Prelude.{reverse, slice_get, Option, nat_lt}
 use Rattle.std.proofs.lemmas.List.{length-reverse}
-use Rattle.std.proofs.lemmas.List.Elements.{All-nil, All-cons, All-weaker}
+use Rattle.std.proofs.lemmas.List.Elements.{All-nil, All-weaker}
 use Rattle.std.proofs.lemmas.Bool.Decides.{nat_tests}
 use Rattle.circular_buffer.specs.Buffer.{Buffer, buffer}
 use Rattle.ooo_front.specs.declared.row.FetchRow.{FetchRow}
 use Rattle.ooo_front.specs.Fetching.{FrontEnd, earliest_after, with_row}
 use Rattle.ooo_front.specs.Path.{IsPath, IsSound, AreInOrder}
-use Rattle.ooo_front.specs.Stands.{IsNext, oldest, queued_before, with_rows, redirected}
+use Rattle.ooo_front.specs.Stands.{IsNext, oldest, queued_before}
 use Rattle.ooo_front.proofs.Paths.{pushed, first_last, first_row, path_put, path_front, path_above, path_in_order}
 
 -- a front with this ring and these numbers

@@ -1,8 +1,8 @@
 -- The laws.
-use Rattle.std.proofs.Common.{◌≡◌, ℕ, zero, suc, ◌+◌, ◌-◌, ◌<◌, ◌≤◌, Some, None, cond, Bool, true, false, List, [], ◌∷◌, ◌++◌, All, length, take, drop, refl, sym, ap, subst, ◌∙◌, arith, length-append, append_assoc}
-use Rattle.std.specs.Prelude.{max, map, filter_map, reverse, slice_get, Option, is_some, nat_le, nat_lt, ◌==◌, ◌&&◌, if◌then◌else◌}
+use Rattle.std.proofs.Common.{◌≡◌, ℕ, zero, suc, ◌+◌, ◌-◌, ◌<◌, ◌≤◌, Some, None, cond, Bool, true, false, List, [], ◌∷◌, ◌++◌, All, length, drop, refl, sym, ap, subst, ◌∙◌, arith, length-append, append_assoc}
+use Rattle.std.specs.Prelude.{max, map, filter_map, is_some, nat_le, nat_lt, ◌&&◌}
 use Rattle.std.proofs.lemmas.List.{map-append}
-use Rattle.std.proofs.lemmas.List.Elements.{All-nil, All-push, All-cons, All-head, All-tail, filter_map-append}
+use Rattle.std.proofs.lemmas.List.Elements.{All-nil, All-push, All-head, All-tail, filter_map-append}
 use Rattle.std.proofs.lemmas.Bool.{leb-true, le-leb, lt-ltb, ltb-true}
 use Rattle.std.proofs.lemmas.Bool.Decides.{nat_tests}
 use Rattle.ecoff_load.specs.declared.image.Text.{Text}
@@ -13,10 +13,9 @@ use Rattle.mem_hier.specs.Replay.{Reference, Fetch, latency_of, fetch_hit_of, gr
 use Rattle.mem_hier.specs.Stands.{CyclesRise, last_cycle_in}
 use Rattle.mem_hier.proofs.LawProofs.{bounds}
 use Rattle.bpred_unit.specs.declared.config.PredConfig.{PredConfig}
-use Rattle.bpred_unit.specs.History.{Event, LookUp}
 use Rattle.ooo_front.specs.declared.row.FetchRow.{FetchRow}
-use Rattle.ooo_front.specs.Fetching.{FrontEnd, Stage, goes_on, earliest_after, may_fetch, with_row, with_reference, next_row, fetch_one, fetch_up_to, fetch_cycle, looked_up, words_at, queued_at}
-use Rattle.ooo_front.specs.Stands.{oldest, redirected}
+use Rattle.ooo_front.specs.Fetching.{FrontEnd, Stage, goes_on, earliest_after, may_fetch, with_row, with_reference, next_row, fetch_one, fetch_up_to, fetch_cycle}
+use Rattle.ooo_front.specs.Stands.{oldest}
 use Rattle.ooo_front.specs.Laws.{reference_of, lookup_of, Adds, AddsRows, cycles, redirect, IsIdle, Begins, GoesOnThere, IsQueuedSo}
 use Rattle.ooo_front.proofs.Paths.{last_of}
 use Rattle.ooo_front.proofs.Turns.{turn_over, turn_taken, turns_done}

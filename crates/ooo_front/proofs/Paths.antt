@@ -1,15 +1,14 @@
 -- The rows of a ring, and that they are one predicted path.
-use Rattle.std.proofs.Common.{◌≡◌, ℕ, ◌+◌, ◌-◌, ◌^◌, ◌<◌, ◌≤◌, Some, None, cond, Bool, true, false, List, [], ◌∷◌, ◌++◌, All, AllPairs, length, take, drop, refl, sym, ap, subst, ◌∙◌, arith, length-append}
-use Rattle.std.specs.Prelude.{reverse, slice_get, max, Option, nat_lt, ◌==◌, ◌&&◌, if◌then◌else◌}
-use Rattle.std.proofs.lemmas.List.{reverse-append, length-reverse}
-use Rattle.std.proofs.lemmas.List.Elements.{All-nil, All-cons, All-weaker, All-tail, All-head}
+use Rattle.std.proofs.Common.{◌≡◌, ℕ, ◌+◌, ◌-◌, ◌<◌, ◌≤◌, Some, cond, Bool, true, false, List, [], ◌∷◌, ◌++◌, All, length, refl, sym, ap, subst, ◌∙◌, arith, length-append}
+use Rattle.std.specs.Prelude.{reverse, slice_get, max, ◌&&◌}
+use Rattle.std.proofs.lemmas.List.{reverse-append}
+use Rattle.std.proofs.lemmas.List.Elements.{All-nil, All-cons, All-weaker}
 use Rattle.std.proofs.lemmas.List.Kept.{AllPairs-cons}
 use Rattle.std.proofs.lemmas.Bool.{eqb-true}
-use Rattle.bpred_unit.specs.History.{following}
 use Rattle.ooo_front.specs.declared.row.FetchRow.{FetchRow}
-use Rattle.ooo_front.specs.Fetching.{FrontEnd, goes_on, earliest_after, with_row}
-use Rattle.ooo_front.specs.Path.{LeadsTo, IsPath, IsSound, IsBefore, AreInOrder}
-use Rattle.ooo_front.specs.Stands.{IsNext, oldest, queued_before, with_rows, redirected}
+use Rattle.ooo_front.specs.Fetching.{FrontEnd, goes_on, earliest_after}
+use Rattle.ooo_front.specs.Path.{IsPath, IsBefore, AreInOrder}
+use Rattle.ooo_front.specs.Stands.{IsNext, oldest}
 
 -- ---- the rows of a ring
 

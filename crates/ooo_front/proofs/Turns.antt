@@ -1,15 +1,12 @@
 -- The turns of a cycle.
-use Rattle.std.proofs.Common.{◌≡◌, ℕ, zero, suc, ◌+◌, ◌-◌, ◌^◌, ◌<◌, ◌≤◌, Some, None, cond, Bool, true, false, List, [], ◌∷◌, ◌++◌, All, length, refl, sym, ap, subst, ◌∙◌, arith}
-use Rattle.std.specs.Prelude.{reverse, nat_le, nat_lt, is_some, unwrap_or, ◌&&◌, if◌then◌else◌}
+use Rattle.std.proofs.Common.{◌≡◌, ℕ, zero, suc, ◌+◌, cond, true, false, ◌∷◌, refl, sym, ap, subst, ◌∙◌}
 use Rattle.ecoff_load.specs.declared.image.Text.{Text}
-use Rattle.ecoff_load.specs.Fetch.{fetch}
 use Rattle.mem_hier.specs.declared.config.HierConfig.{HierConfig}
-use Rattle.mem_hier.specs.Replay.{Reference, Fetch, latency_of, fetch_hit_of}
 use Rattle.mem_hier.specs.Stands.{Held, StandsFor}
 use Rattle.bpred_unit.specs.declared.config.PredConfig.{PredConfig}
 use Rattle.bpred_unit.specs.declared.predictor.Predictor.{Predictor}
 use Rattle.bpred_unit.specs.declared.predictor.Look.{Look}
-use Rattle.bpred_unit.specs.History.{Event, LookUp, look_of}
+use Rattle.bpred_unit.specs.History.{LookUp, look_of}
 use Rattle.bpred_unit.specs.Stands as pred
 use Rattle.ooo_front.specs.declared.row.FetchRow.{FetchRow}
 use Rattle.ooo_front.specs.Fetching.{FrontEnd, Stage, may_fetch, next_row, fetch_one, fetch_up_to, fetch_cycle, looked_up, words_at, queued_at, with_reference, with_row}

@@ -7,7 +7,7 @@ use Rattle.mem_hier.specs.Replay.{Reference, Fetch, latency_of, fetch_hit_of, gr
 use Rattle.bpred_unit.specs.declared.config.PredConfig.{PredConfig}
 use Rattle.bpred_unit.specs.History.{Event, LookUp}
 use Rattle.ooo_front.specs.declared.row.FetchRow.{FetchRow}
-use Rattle.ooo_front.specs.Fetching.{FrontEnd, Stage, looked_up, goes_on, may_fetch, queued_at, fetch_cycle}
+use Rattle.ooo_front.specs.Fetching.{Stage, looked_up, goes_on, may_fetch, queued_at, fetch_cycle}
 use Rattle.ooo_front.specs.Stands.{oldest, redirected}
 
 -- the reference of a row, if it has one

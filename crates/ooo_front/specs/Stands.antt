@@ -1,7 +1,6 @@
 -- How a front shows, what it stands for together with the hierarchy and the predictor that it asks, and what a cycle
 -- asks of their numbers and leaves of them.
-use Rattle.std.specs.Prelude.{◌≡◌, ℕ, ◌+◌, ◌-◌, ◌^◌, ◌<◌, ◌≤◌, List, [], ◌∷◌, length, reverse, All, Option, Some, None, slice_get, nat_lt, if◌then◌else◌}
-use Rattle.circular_buffer.specs.Buffer.{Buffer}
+use Rattle.std.specs.Prelude.{◌≡◌, ℕ, ◌+◌, ◌-◌, ◌^◌, ◌<◌, ◌≤◌, List, [], length, All, Option, Some, None, slice_get, nat_lt, if◌then◌else◌}
 use Rattle.mem_hier.specs.declared.config.HierConfig.{HierConfig}
 use Rattle.mem_hier.specs.Stands as hier
 use Rattle.mem_hier.specs.Stands.{Held, config_of, references_of, last_cycle_of}
@@ -61,6 +60,14 @@ pub record MayFetchOne (f : FrontEnd) (h : Held) (at : ℕ) : Type 0 where
   pub cycle : at < 2 ^ 62
   pub references : references_of h < 2 ^ 60
   pub rows : f.row < 2 ^ 62
+
+-- the row may wait: there is room for it, it is the next one, and it isn't fetched too early
+pub record MayWait (f : FrontEnd) (r : FetchRow) : Type 0 where
+  pub room : length f.rows < f.size
+  pub next : IsNext f r r.fetched
+  pub early : f.earliest ≤ r.fetched
+  pub fits : r.fetched < 2 ^ 62
+  pub count : r.row < 2 ^ 62
 
 -- ---- other calls
 

@@ -6,7 +6,7 @@ ghost use Rattle.mem_hier.specs.Stands.{StandsFor, references_of, last_cycle_of}
 ghost use Rattle.bpred_unit.specs.declared.config.PredConfig.{PredConfig};
 ghost use Rattle.ooo_front.specs.Fetching.{Stage, may_fetch, with_row, next_row, fetch_one, fetch_cycle, queued_at, with_reference};
 ghost use Rattle.ooo_front.specs.Path.{AreInOrder, IsPath};
-ghost use Rattle.ooo_front.specs.Stands.{Stands, MayFollow, MayFetchOne, IsNext, Refers, LooksUp, Counts, started, oldest, queued_before, with_rows, redirected};
+ghost use Rattle.ooo_front.specs.Stands.{Stands, MayFollow, MayFetchOne, MayWait, IsNext, Refers, LooksUp, Counts, started, oldest, queued_before, with_rows, redirected};
 
 use crate::row::{FetchRow, looked_up};
 use arrayvec::ArrayVec;
@@ -54,7 +54,7 @@ fn queue_cycle(hier: &mut Hier, pc: u32, cycle: u64, is_text: bool) -> u64
     ensures stands { (c : HierConfig) (h : List Reference) → StandsFor hier.old c h
         → StandsFor hier.new c (if is_text then Fetch pc cycle ∷ h else h) }
     ensures refers { Refers hier.old hier.new 1 cycle }
-    ensures later { (cycle ≤ result) × (result < 2 ^ 63) }
+    ensures later { cycle ≤ result }
 {
     if is_text {
         let latency = hier.fetch(pc, cycle);
@@ -167,11 +167,7 @@ impl Front {
 
     /// The row waits, and the next row is the one behind it.
     fn put(&mut self, row: FetchRow)
-        requires room { length self.old.rows < self.old.size }
-        requires next { IsNext self.old row row.fetched }
-        requires early { self.old.earliest ≤ row.fetched }
-        requires fits { row.fetched < 2 ^ 62 }
-        requires count { row.row < 2 ^ 62 }
+        requires { MayWait self.old row }
         ensures { self.new ≡ with_row row self.old }
     {
         match self.queue.try_push_back(row) {

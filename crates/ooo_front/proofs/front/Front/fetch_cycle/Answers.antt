@@ -1,6 +1,5 @@
-use Rattle.std.proofs.Common.{◌≡◌, ◌∙◌, ◌+◌, ◌-◌, suc, ap, arith, refl, sym, length}
+use Rattle.std.proofs.Common.{◌≡◌, ◌∙◌, ◌+◌, ◌-◌, ap, arith, refl, sym, length}
 use Rattle.ooo_front.specs.Fetching.{FrontEnd, fetch_cycle}
-use Rattle.ooo_front.specs.Shown.{shown}
 use Rattle.ooo_front.proofs.Turns.{begun, over, done, further}
 use Rattle.ooo_front.proofs.Cycles.{rows_begin, counts_begin, looks_begin, rows_more, counts_more, refers_more, looks_more}
 use Rattle.ooo_front.proofs.front.Front.fetch_cycle.Goals as goal

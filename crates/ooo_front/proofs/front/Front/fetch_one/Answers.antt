@@ -1,7 +1,6 @@
-use Rattle.std.proofs.Common.{ℕ, ◌≡◌, ◌∙◌, ◌-◌, ◌+◌, List, ◌∷◌, ap, sym, subst, cond, Option}
-use Rattle.std.specs.Prelude.{is_some, unwrap_or, if◌then◌else◌}
+use Rattle.std.proofs.Common.{◌∙◌, ◌-◌, ◌+◌, ◌∷◌, ap, subst, cond}
+use Rattle.std.specs.Prelude.{is_some, unwrap_or}
 use Rattle.pisa_isa.specs.declared.instr.Instr.{Instr}
-use Rattle.ecoff_load.specs.Fetch.{fetch}
 use Rattle.mem_hier.specs.Replay.{Fetch, latency_of, fetch_hit_of}
 use Rattle.mem_hier.specs.Stands.{StandsFor}
 use Rattle.bpred_unit.specs.History.{LookUp, look_of}

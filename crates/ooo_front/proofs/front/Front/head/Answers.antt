@@ -1,6 +1,6 @@
 use Rattle.std.proofs.Common.{None, refl}
 use Rattle.ooo_front.specs.Shown.{shown}
-use Rattle.ooo_front.proofs.Calls.{head_order, head_is, head_late, head_none, head_all, head_empty}
+use Rattle.ooo_front.proofs.Calls.{head_order, head_is, head_none, head_all, head_empty}
 use Rattle.ooo_front.proofs.front.Front.head.Goals as goal
 
 pub returns-then-row-cycle-clause-order : goal.returns-then-row-cycle-clause-order
