@@ -1,0 +1,5 @@
+pub mod Paths
+pub mod Turns
+pub mod LawProofs
+pub mod Calls
+pub mod Cycles

@@ -1,0 +1,5 @@
+pub mod Fetching
+pub mod Stands
+pub mod Shown
+pub mod Path
+pub mod Laws
