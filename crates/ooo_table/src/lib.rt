@@ -1,0 +1,16 @@
+//! The timing of the out-of-order machine, as a definition: one table of all fetched instructions
+//! and the cycles of what was done to them.
+//!
+//! `specs/` defines the table cycle by cycle over the functional machine, the memory hierarchy, the
+//! predictor and the columns of the instruction table, and names nothing of a core that runs it. The
+//! crate promises what follows from those rules alone: the functions of `laws` carry that every table
+//! is a legal schedule, that the rows on the right path are the steps of the functional run, and that
+//! an instruction commits within a bounded number of cycles. `OooConfig`, `Event` and `Log` are the
+//! types in which a core and its texts speak of it.
+#![tactic(auto)]
+
+mod config;
+mod event;
+
+pub use config::OooConfig;
+pub use event::{EndWord, Event, Events, Log, Mark};
