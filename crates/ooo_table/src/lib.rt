@@ -11,6 +11,13 @@
 
 mod config;
 mod event;
+mod laws;
 
 pub use config::OooConfig;
 pub use event::{EndWord, Event, Events, Log, Mark};
+pub use laws::{
+    bound_holds, commits_in_order, ends_lie_between, every_end_is_legal, issue_keeps_its_rules,
+    marks_have_happened, marks_stay, memory_is_in_order, one_path, places_suffice,
+    producers_are_done, right_rows_stay, squashed_rows_are_quiet, units_suffice, widths_are_kept,
+    wrong_rows_are_squashed,
+};
