@@ -22,3 +22,4 @@ pub mod Ends
 pub mod Quiet
 pub mod Rules
 pub mod CycleFacts
+mod Worked

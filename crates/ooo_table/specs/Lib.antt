@@ -18,3 +18,5 @@ pub mod PathLaws
 pub mod Bound
 pub mod CycleLaws
 pub mod Machine
+pub mod Events
+pub mod Counts
