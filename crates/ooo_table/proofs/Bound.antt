@@ -21,11 +21,12 @@ use Rattle.ooo_table.specs.Fetch.{fetch_up_to, fetch_one, may_fetch}
 use Rattle.ooo_table.specs.Cycle.{table, cycle}
 use Rattle.ooo_table.specs.Ends.{stops_in, commits_in, exited}
 use Rattle.ooo_table.specs.Later.{Each, Where}
-use Rattle.ooo_table.specs.Bound.{Bounded}
+use Rattle.ooo_table.specs.Bound.{Bounded, Rises}
 use Rattle.ooo_table.proofs.Over.{Over, AllOver, count_none, each_map, commit_same, issue_same, dispatch_same, swept_same, swept_over, all_ready, all_from, any_from, not_waiting}
 use Rattle.ooo_table.proofs.Cases.{commits_now, dispatches_now, issues_now, accesses_now, left_over, none_live}
 use Rattle.ooo_table.proofs.Units.{unit_left}
 use Rattle.ooo_table.proofs.Times.{Times, Reads, times_table}
+use Rattle.ooo_table.proofs.Rising.{rises_stores, rises_loads, rises_table}
 use Rattle.ooo_table.proofs.Route.{Route, Ahead, any_same, right_stands, stage_keeps, route_table}
 use Rattle.ooo_table.proofs.RowFacts.{changed_commit}
 use Rattle.ooo_table.proofs.Marks.{fetch_adds}
@@ -279,10 +280,10 @@ module _ (set : Setting) (I M : ℕ) (limits : Bounded set I M) where
   latency_most Multiply = omega arith
   latency_most Divide = omega arith
 
-  back_bound : (c : ℕ) (base : List Reference) (older : List Row) (r : Row) → (access_of set c base older r).back ≤ c + M
-  back_bound c base older r =
+  back_bound : (c : ℕ) (base : List Reference) → Rises c base → (older : List Row) (r : Row) → (access_of set c base older r).back ≤ c + M
+  back_bound c base rise older r =
       cond_both (is_forwarded set older r) 1 (set.latency (Load (address (execution set r).memory) c) (load_references set c older base)) (λ n. c + n ≤ c + M)
-      (λ e. omega (arith, limits.some)) (λ e. omega (arith, limits.load (address (execution set r).memory) c (load_references set c older base)))
+      (λ e. omega (arith, limits.some)) (λ e. omega (arith, limits.load (address (execution set r).memory) c (load_references set c older base) (rises_loads set c older base rise)))
 
   -- nothing but its access changes in a row that has issued
   issued_turn : (c d i : ℕ) (base : List Reference) (start older : List Row) (r : Row) → r.dispatched ≡ Some d → r.issued ≡ Some i → accesses set c start older r ≡ false → turns c base start older r ≡ r
@@ -292,12 +293,12 @@ module _ (set : Setting) (I M : ℕ) (limits : Bounded set I M) where
       again : issues set c start older r ≡ true → ⊥
       again h = let k : is_none r.issued ≡ true = grind (arith, and_parts) in both' k (ap is_none ei)
 
-  phase_step : (T c : ℕ) (base : List Reference) (all start next older0 older : List Row) (r : Row) → r.fetched.right ≡ true → r.squashed ≡ None → r.fetched.at ≤ r.fetched.queued
+  phase_step : (T c : ℕ) (base : List Reference) → Rises c base → (all start next older0 older : List Row) (r : Row) → r.fetched.right ≡ true → r.squashed ≡ None → r.fetched.at ≤ r.fetched.queued
       → AllOver set c r.fetched.at older0 → AllOver set c r.fetched.at older → Begun c start → (r.dispatched ≡ None → r.issued ≡ None → r.access ≡ None → r.fetched.queued < c → (execution set r).stops ≡ false)
       → Each (λ _ o. (is_some o.committed && (o.fetched.right && (execution set o).exit)) ≡ false) older
       → done_before set c older0 r ≡ false → Ends (c + 19) next → ((E : ℕ) → Ends E all → Ends E start) → ((E : ℕ) → set.config.mults ≤ count_by (holds set Multipliers c) start → Ends E start → Ends E next)
       → Phase T c all r → Phase T (suc c) next (turns c base start older r)
-  phase_step T c base all start next older0 older r right stands least over0 over begun goes running undone ends keeps held (queued un ui ua h k) =
+  phase_step T c base rise all start next older0 older r right stands least over0 over begun goes running undone ends keeps held (queued un ui ua h k) =
       by_queue (cases_lt r.fetched.queued c)
     where
       by_queue : (r.fetched.queued < c) ⊎ (c ≤ r.fetched.queued) → Phase T (suc c) next (turns c base start older r)
@@ -305,7 +306,7 @@ module _ (set : Setting) (I M : ℕ) (limits : Bounded set I M) where
           subst (Phase T (suc c) next) (sym (queued_turn c r.fetched.at base start older r over right stands un ui ua q (goes un ui ua q) running))
           (waits c (c + 19) refl (omega arith) (omega arith) ui ua ends (omega arith) (omega arith))
       by_queue (inr q) = subst (Phase T (suc c) next) (sym (unqueued_turn c base start older r un ui q)) (queued un ui ua (omega arith) k)
-  phase_step T c base all start next older0 older r right stands least over0 over begun goes running undone ends keeps held (waits d E e late before ui ua free h k) =
+  phase_step T c base rise all start next older0 older r right stands least over0 over begun goes running undone ends keeps held (waits d E e late before ui ua free h k) =
       by_unit (unit_there c r.fetched.at start older (execution set r).unit over begun)
     where
       issued : (b : Bool) → loads set r ≡ b → Phase T (suc c) next (record r { issued = Some c })
@@ -319,7 +320,7 @@ module _ (set : Setting) (I M : ℕ) (limits : Bounded set I M) where
           let still : c < E = some_holder c E start (keeps E free) (omega (arith, full, limits.mults)) in
           subst (Phase T (suc c) next) (sym (refused_turn c d base start older r e ui u full))
           (waits d E e late (omega arith) ui ua (held E full (keeps E free)) (omega (arith, still)) k)
-  phase_step T c base all start next older0 older r right stands least over0 over begun goes running undone ends keeps held (runs d i e late ei l h k) =
+  phase_step T c base rise all start next older0 older r right stands least over0 over begun goes running undone ends keeps held (runs d i e late ei l h k) =
       subst (Phase T (suc c) next) (sym (issued_turn c d i base start older r e ei (false_from_ne_true _ (λ f. both' (loads_of f) l)))) (runs d i e late ei l (by_time (cases_lt (i + unit_latency (execution set r).unit) c)) k)
     where
       loads_of : accesses set c start older r ≡ true → loads set r ≡ true
@@ -341,7 +342,7 @@ module _ (set : Setting) (I M : ℕ) (limits : Bounded set I M) where
       by_time : (i + unit_latency (execution set r).unit < c) ⊎ (c ≤ i + unit_latency (execution set r).unit) → suc c + 1 ≤ T
       by_time (inl lt) = absurd (both' (done lt) undone)
       by_time (inr le) = omega arith
-  phase_step T c base all start next older0 older r right stands least over0 over begun goes running undone ends keeps held (addressed d i e late ei l ua h k) =
+  phase_step T c base rise all start next older0 older r right stands least over0 over begun goes running undone ends keeps held (addressed d i e late ei l ua h k) =
       by_time (cases_lt c (i + unit_latency (execution set r).unit))
     where
       early : c < i + unit_latency (execution set r).unit → accesses set c start older r ≡ true → ⊥
@@ -354,8 +355,8 @@ module _ (set : Setting) (I M : ℕ) (limits : Bounded set I M) where
       by_time (inl lt) = subst (Phase T (suc c) next) (sym (issued_turn c d i base start older r e ei (false_from_ne_true _ (early lt)))) (addressed d i e late ei l ua (omega arith) k)
       by_time (inr le) =
           subst (Phase T (suc c) next) (sym (access_turn c r.fetched.at d i base start older r over e late l ei ua stands le (omega (arith, ports_left c start begun, limits.ports))))
-          (reads d (access_of set c base older r) e late (ap is_some ei) l refl (omega arith) (omega (arith, back_bound c base older r)))
-  phase_step T c base all start next older0 older r right stands least over0 over begun goes running undone ends keeps held (reads d a e late si l ea h k) =
+          (reads d (access_of set c base older r) e late (ap is_some ei) l refl (omega arith) (omega (arith, back_bound c base rise older r)))
+  phase_step T c base rise all start next older0 older r right stands least over0 over begun goes running undone ends keeps held (reads d a e late si l ea h k) =
       subst (Phase T (suc c) next) (sym (left_turn r.issued refl si)) (reads d a e late si l ea (by_time (cases_lt a.back c)) k)
     where
       again : accesses set c start older r ≡ true → ⊥
@@ -511,10 +512,10 @@ module _ (set : Setting) (I M : ℕ) (limits : Bounded set I M) where
         gone = v.gone;
       }
 
-  pub cycle_step : (T c : ℕ) (t : Table) → Each (Route set c) t.rows × Ahead set c t.rows t.next_fetch → Each (Times set I M limits c) t.rows → Each (Times set I M limits (suc c)) (cycle set c t).rows
+  pub cycle_step : (T c : ℕ) (t : Table) → Rises c t.references → Each (Route set c) t.rows × Ahead set c t.rows t.next_fetch → Each (Times set I M limits c) t.rows → Each (Times set I M limits (suc c)) (cycle set c t).rows
       → exited set t ≡ false → commits_in set c t ≡ false → stops_in set c t ≡ false
       → Focus (Front T c t.rows) t.rows → Focus (Front T (suc c) (cycle set c t).rows) (cycle set c t).rows
-  cycle_step T c t route times times' running quiet going (younger, older, r, e, front) =
+  cycle_step T c t rise route times times' running quiet going (younger, older, r, e, front) =
       (fresh.0 ++ four.0, older2, turned, fresh.1 ∙ (ap (λ l. fresh.0 ++ l) four.1 ∙ sym (append_assoc fresh.0 four.0 (turned ∷ older2))), after)
     where
       one : Table
@@ -646,7 +647,7 @@ module _ (set : Setting) (I M : ℕ) (limits : Bounded set I M) where
         right = ap (λ w. w.right) kept.0 ∙ front.right;
         unset = kept.1 ∙ front.unset;
         over = subst (λ w. AllOver set (suc c) w.at older2) (sym kept.0) (later_over c r.fetched.at older2 over2);
-        phase = phase_step T c base t.rows two.rows (cycle set c t).rows older older2 r front.right stands mine.0.least front.over over2 start goes exits undone
+        phase = phase_step T c base (rises_stores set c two.rows two.references rise) t.rows two.rows (cycle set c t).rows older older2 r front.right stands mine.0.least front.over over2 start goes exits undone
             (ends_all c (cycle set c t).rows times') keeps held front.phase;
       }
 
@@ -723,6 +724,6 @@ module _ (set : Setting) (I M : ℕ) (limits : Bounded set I M) where
       by_now false true f g ih = (c, omega arith, in_time' focus, or_right _ _ g)
       by_now false false f g ih =
           let next : Focus (Front T (suc c) (table set (suc c)).rows) (table set (suc c)).rows =
-          cycle_step T c (table set c) (route_table set c limits.penalty) (times_table set I M limits c) (times_table set I M limits (suc c)) running f g focus in
+          cycle_step T c (table set c) (rises_table set limits.start c) (route_table set c limits.penalty) (times_table set I M limits c) (times_table set I M limits (suc c)) running f g focus in
           let (x, le, lt, h) = ih (still_running c (table set c) running f) next in
           (x, omega arith, lt, h)

@@ -21,6 +21,7 @@ use Rattle.ooo_table.specs.Bound.{Bounded}
 use Rattle.ooo_table.specs.CycleLaws.{Fresh, Comes, Newest, as_next, Leads, Linked, RecoversLive}
 use Rattle.ooo_table.proofs.Order.{Changed, Now, below_written}
 use Rattle.ooo_table.proofs.RowFacts.{RowFacts, Passed, passed_stays, waits_not, sweep_keeps, changed_commit, changed_squash, changed_dispatch, changed_issue, facts_commit, facts_squash, facts_issue, facts_dispatch, facts_table}
+use Rattle.ooo_table.proofs.Rising.{rises_stores, rises_table}
 use Rattle.ooo_table.proofs.Route.{Route, Ahead, stage_keeps, recover_keeps, route_table, any_same, zip_of, find_none}
 use Rattle.ooo_table.proofs.Times.{Times, times_table, times_later, times_commit, times_squash, times_issue, times_dispatch}
 use Rattle.ooo_table.proofs.Quiet.{each_turn, Own, Follows, follows_sweep, both_table, own_commit, same_commit, same_issue, squash_follows, squash_still}
@@ -345,7 +346,7 @@ module _ (set : Setting) (I M : ℕ) (limits : Bounded set I M) where
   times_three c =
       let base = store_references set c (after_recover set c).rows (after_recover set c).references in
       let start = (after_recover set c).rows in
-      (sweep_keeps (Times set I M limits (suc c)) (Changed c) (issue_row set c base start) (changed_issue set c base start) (times_issue set I M limits c base start) start (times_two c)).1
+      (sweep_keeps (Times set I M limits (suc c)) (Changed c) (issue_row set c base start) (changed_issue set c base start) (times_issue set I M limits c base (rises_stores set c start (after_recover set c).references (rises_table set limits.start c)) start) start (times_two c)).1
 
   pub times_four : (c : ℕ) → Each (Times set I M limits (suc c)) (after_dispatch set c).rows
   times_four c = (sweep_keeps (Times set I M limits (suc c)) (Changed c) (dispatch_row set c) (changed_dispatch set c) (times_dispatch set I M limits c) (after_issue set c).rows (times_three c)).1

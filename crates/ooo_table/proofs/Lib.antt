@@ -23,3 +23,4 @@ pub mod Quiet
 pub mod Rules
 pub mod CycleFacts
 mod Worked
+pub mod Rising

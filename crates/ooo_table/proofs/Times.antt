@@ -18,9 +18,10 @@ use Rattle.ooo_table.specs.Dispatch.{dispatch, dispatch_row, dispatches}
 use Rattle.ooo_table.specs.Fetch.{fetch_up_to, fetch_one, may_fetch, fetched_row, queue_cycle}
 use Rattle.ooo_table.specs.Cycle.{table, cycle}
 use Rattle.ooo_table.specs.Later.{Each, Where}
-use Rattle.ooo_table.specs.Bound.{Bounded}
+use Rattle.ooo_table.specs.Bound.{Bounded, Rises}
 use Rattle.ooo_table.proofs.Order.{Changed, Now, below_written}
 use Rattle.ooo_table.proofs.RowFacts.{sweep_keeps, changed_commit, changed_squash, changed_dispatch, changed_issue}
+use Rattle.ooo_table.proofs.Rising.{rises_stores, rises_loads, rises_all, rises_table}
 use Rattle.ooo_table.proofs.Route.{Route, Ahead, Clean, zip_of, stage_keeps, recover_keeps, any_same, right_stands, route_table, fetched_ahead, fetched_route}
 
 -- all wrong rows were squashed by cycle f
@@ -121,9 +122,9 @@ module _ (set : Setting) (I M : ℕ) (limits : Bounded set I M) where
       queued : dispatches set c before r ≡ true → nat_lt r.fetched.queued c ≡ true
       queued e = grind (arith, and_parts)
 
-  pub times_issue : (c : ℕ) (base : List Reference) (start older before : List Row) (r : Row) → AllZip (Changed c) older before → Each (Times (suc c)) before → Times (suc c) older r
+  pub times_issue : (c : ℕ) (base : List Reference) → Rises c base → (start older before : List Row) (r : Row) → AllZip (Changed c) older before → Each (Times (suc c)) before → Times (suc c) older r
       → Times (suc c) before (issue_row set c base start before r)
-  times_issue c base start older before r zip below t =
+  times_issue c base rise start older before r zip below t =
       cond_both (issues set c start before r) (record r { issued = Some c }) _ (λ s. Changed c r s → Times (suc c) before s)
       (λ e ch. same_turn c older before r _ zip ch t refl refl refl)
       (λ _. cond_both (accesses set c start before r) (record r { access = Some (access_of set c base before r) }) r (λ s. Changed c r s → Times (suc c) before s)
@@ -133,7 +134,7 @@ module _ (set : Setting) (I M : ℕ) (limits : Bounded set I M) where
     where
       in_time : (access_of set c base before r).back ≤ c + M
       in_time = cond_both (is_forwarded set before r) 1 (set.latency (Load (address (execution set r).memory) c) (load_references set c before base)) (λ n. c + n ≤ c + M)
-          (λ e. omega (arith, limits.some)) (λ e. omega (arith, limits.load (address (execution set r).memory) c (load_references set c before base)))
+          (λ e. omega (arith, limits.some)) (λ e. omega (arith, limits.load (address (execution set r).memory) c (load_references set c before base) (rises_loads set c before base rise)))
 
       back : accesses set c start before r ≡ true → is_before (suc c) (written set r) ≡ true
       back e = grind (arith, and_parts)
@@ -164,9 +165,9 @@ module _ (set : Setting) (I M : ℕ) (limits : Bounded set I M) where
       it None h w = absurd cc
       it (Some x) h w = (x, refl, omega arith)
 
-  times_fresh : (c : ℕ) (rows : List Row) (u : NextFetch) (look : Look) (before : List Reference) → Each (Times (suc c)) rows → Ahead set (suc c) rows u
+  times_fresh : (c : ℕ) (rows : List Row) (u : NextFetch) (look : Look) (before : List Reference) → Rises c before → Each (Times (suc c)) rows → Ahead set (suc c) rows u
       → Times (suc c) rows (fetched_row set c u look (queue_cycle set c u.pc before))
-  times_fresh c rows u look before t a =
+  times_fresh c rows u look before rise t a =
       record {
         at = omega arith;
         least = bounds.0;
@@ -182,18 +183,18 @@ module _ (set : Setting) (I M : ℕ) (limits : Bounded set I M) where
     where
       bounds : (c ≤ queue_cycle set c u.pc before) × (queue_cycle set c u.pc before ≤ c + I)
       bounds = cond_both (set.is_text u.pc) (c + (set.latency (Fetch u.pc c) before - set.fetch_hit)) c (λ q. (c ≤ q) × (q ≤ c + I))
-          (λ e. (omega arith, omega (arith, limits.fetch u.pc c before))) (λ e. (omega arith, omega arith))
+          (λ e. (omega arith, omega (arith, limits.fetch u.pc c before rise))) (λ e. (omega arith, omega arith))
 
-  times_fetches : (n c : ℕ) (t : Table) → Each (Route set (suc c)) t.rows → Ahead set (suc c) t.rows t.next_fetch → Each (Times (suc c)) t.rows
+  times_fetches : (n c : ℕ) (t : Table) → Rises c t.references → Each (Route set (suc c)) t.rows → Ahead set (suc c) t.rows t.next_fetch → Each (Times (suc c)) t.rows
       → Each (Times (suc c)) (fetch_up_to set n c t).rows
-  times_fetches zero c t route ahead times = times
-  times_fetches (suc n) c t route ahead times =
+  times_fetches zero c t rise route ahead times = times
+  times_fetches (suc n) c t rise route ahead times =
       cond_both (may_fetch set c t) (fetch_up_to set n c (fetch_one set c t)) t (λ u. Each (Times (suc c)) u.rows)
       (λ e. let le : t.next_fetch.earliest ≤ c = leb-true _ _ (and_parts _ _ e).0 in
       let row : Route set (suc c) t.rows (fetched_row set c t.next_fetch (set.look t.next_fetch.pc (predictor_events_of set c t.rows t.predictor_events)) (queue_cycle set c t.next_fetch.pc (references_of set c t.rows t.references)))
       = fetched_route set c t.rows t.next_fetch (set.look t.next_fetch.pc (predictor_events_of set c t.rows t.predictor_events)) _ le ahead in
-      times_fetches n c (fetch_one set c t) (row, route) (fetched_ahead set c t.rows _ refl row ahead.strays)
-      (times_fresh c t.rows t.next_fetch (set.look t.next_fetch.pc (predictor_events_of set c t.rows t.predictor_events)) _ times ahead, times))
+      times_fetches n c (fetch_one set c t) rise (row, route) (fetched_ahead set c t.rows _ refl row ahead.strays)
+      (times_fresh c t.rows t.next_fetch (set.look t.next_fetch.pc (predictor_events_of set c t.rows t.predictor_events)) _ (rises_all set c t.rows t.references rise) times ahead, times))
       (λ _. times)
 
   pub times_later : (c : ℕ) (rows : List Row) → Each (Times c) rows → Each (Times (suc c)) rows
@@ -226,8 +227,8 @@ module _ (set : Setting) (I M : ℕ) (limits : Bounded set I M) where
         gone = t.gone;
       }
 
-  times_cycle : (c : ℕ) (t : Table) → Each (Route set c) t.rows × Ahead set c t.rows t.next_fetch → Each (Times c) t.rows → Each (Times (suc c)) (cycle set c t).rows
-  times_cycle c t k times =
+  times_cycle : (c : ℕ) (t : Table) → Rises c t.references → Each (Route set c) t.rows × Ahead set c t.rows t.next_fetch → Each (Times c) t.rows → Each (Times (suc c)) (cycle set c t).rows
+  times_cycle c t rise k times =
       let one = commit set c t in
       let two = recover set c one in
       let three = issue set c two in
@@ -238,10 +239,10 @@ module _ (set : Setting) (I M : ℕ) (limits : Bounded set I M) where
       let k4 = stage_keeps set c (suc c) (dispatch_row set c) three.rows three.next_fetch (omega arith) (changed_dispatch set c) k3 in
       let t1 : Each (Times (suc c)) one.rows = (sweep_keeps (Times (suc c)) (Changed c) (commit_row set c) (changed_commit set c) (times_commit c) t.rows (times_later c t.rows times)).1 in
       let t2 : Each (Times (suc c)) two.rows = times_squash c one.rows k1.0 t1 in
-      let t3 : Each (Times (suc c)) three.rows = (sweep_keeps (Times (suc c)) (Changed c) (issue_row set c base two.rows) (changed_issue set c base two.rows) (times_issue c base two.rows) two.rows t2).1 in
+      let t3 : Each (Times (suc c)) three.rows = (sweep_keeps (Times (suc c)) (Changed c) (issue_row set c base two.rows) (changed_issue set c base two.rows) (times_issue c base (rises_stores set c two.rows two.references rise) two.rows) two.rows t2).1 in
       let t4 : Each (Times (suc c)) (dispatch set c three).rows = (sweep_keeps (Times (suc c)) (Changed c) (dispatch_row set c) (changed_dispatch set c) (times_dispatch c) three.rows t3).1 in
-      times_fetches set.config.decode c (dispatch set c three) k4.0 k4.1 t4
+      times_fetches set.config.decode c (dispatch set c three) rise k4.0 k4.1 t4
 
   pub times_table : (c : ℕ) → Each (Times c) (table set c).rows
   times_table zero = tt
-  times_table (suc c) = times_cycle c (table set c) (route_table set c limits.penalty) (times_table c)
+  times_table (suc c) = times_cycle c (table set c) (rises_table set limits.start c) (route_table set c limits.penalty) (times_table c)

@@ -1,10 +1,17 @@
 -- How long it takes at most until a row commits.
 use Rattle.std.specs.Prelude.{ℕ, ◌+◌, ◌*◌, ◌≤◌, List}
 use Rattle.mem_hier.specs.Replay.{Reference, Fetch, Load}
+use Rattle.mem_hier.specs.Stands.{last_cycle_in, CyclesRise}
 use Rattle.ooo_table.specs.Table.{Setting}
 
+-- a history whose cycles never fall, and which is over by cycle c
+pub record Rises (c : ℕ) (h : List Reference) : Type 0 where
+  pub rise : CyclesRise h
+  pub last : last_cycle_in h ≤ c
+
 module _ (set : Setting) where
-  -- there is at least one of everything, and no fetch takes longer than I and no load longer than M
+  -- There is at least one of everything. After any history whose cycles never fall, and so was the one of the start, no
+  -- fetch takes longer than I and no load longer than M.
   pub record Bounded (I M : ℕ) : Type 0 where
     pub ifq : 1 ≤ set.config.ifq
     pub decode : 1 ≤ set.config.decode
@@ -16,8 +23,9 @@ module _ (set : Setting) where
     pub alus : 1 ≤ set.config.alus
     pub mults : 1 ≤ set.config.mults
     pub ports : 1 ≤ set.config.ports
-    pub fetch : (pc c : ℕ) (h : List Reference) → set.latency (Fetch pc c) h ≤ I
-    pub load : (a c : ℕ) (h : List Reference) → set.latency (Load a c) h ≤ M
+    pub start : CyclesRise set.start_references
+    pub fetch : (pc c : ℕ) (h : List Reference) → Rises c h → set.latency (Fetch pc c) h ≤ I
+    pub load : (a c : ℕ) (h : List Reference) → Rises c h → set.latency (Load a c) h ≤ M
     pub some : 1 ≤ M
 
 -- the penalty, the greatest latencies of a fetch and of a load, the latency of a division, three times its issue latency,
