@@ -25,7 +25,7 @@ use Rattle.ooo_table.proofs.Over.{Over, AllOver, count_none, each_map, commit_sa
 use Rattle.ooo_table.proofs.Times.{Times, Reads, times_table}
 use Rattle.ooo_table.proofs.Route.{Ahead, route_table}
 use Rattle.ooo_table.proofs.Marks.{fetch_adds}
-use Rattle.ooo_table.proofs.Bound.{Focus, each_split, commit_row_keeps, squash_row_keeps, dispatch_row_keeps, each_sweep, still_running}
+use Rattle.ooo_table.proofs.Deadlines.{Focus, each_split, commit_row_keeps, squash_row_keeps, dispatch_row_keeps, each_sweep, still_running}
 use Rattle.ooo_table.proofs.RowFacts.{facts_table}
 use Rattle.ooo_table.proofs.Enter.{Settled, Oldest, oldest, all_over, over_row, fetched_commits}
 use Rattle.ooo_table.proofs.Route.{Strays, find_none}

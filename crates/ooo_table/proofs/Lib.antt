@@ -7,7 +7,7 @@ pub mod Over
 pub mod Cases
 pub mod Steps
 pub mod Times
-pub mod Bound
+pub mod Deadlines
 pub mod Enter
 pub mod Idle
 pub mod Kept
@@ -24,3 +24,7 @@ pub mod Rules
 pub mod CycleFacts
 mod Worked
 pub mod Rising
+pub mod Leads
+pub mod Run
+pub mod Timely
+pub mod WrongRows

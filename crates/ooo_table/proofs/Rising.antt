@@ -1,9 +1,9 @@
 -- The cycles of a table's references never fall.
-use Rattle.std.proofs.Common.{◌≡◌, ℕ, zero, suc, ◌≤◌, Bool, true, false, cond, List, [], ◌∷◌, Option, Some, None, refl, sym, subst, arith}
+use Rattle.std.proofs.Common.{◌≡◌, ℕ, zero, suc, ◌≤◌, cond, List, [], ◌∷◌, Option, Some, None, refl, sym, subst, arith}
 use Rattle.std.specs.Prelude.{◌++◌, ◌==◌, ◌&&◌, filter_map}
 use Rattle.std.proofs.lemmas.Bool.{cond_both}
 use Rattle.mem_hier.specs.Replay.{Reference, Fetch, Load, Store, SettleAll}
-use Rattle.mem_hier.specs.Stands.{last_cycle_in, CyclesRise}
+use Rattle.mem_hier.specs.Stands.{CyclesRise}
 use Rattle.ooo_table.specs.Row.{Row, is_at, accessed, not_forwarded}
 use Rattle.ooo_table.specs.Execution.{address}
 use Rattle.ooo_table.specs.Table.{Setting, Table}

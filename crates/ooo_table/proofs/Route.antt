@@ -420,7 +420,7 @@ module _ (set : Setting) where
   route_table zero pen = (tt, record { follows = λ w. (refl, refl); clean = λ w. tt; strays = λ w. absurd cc })
   route_table (suc c) pen = route_cycle c (table set c) pen (route_table c pen)
 
-  path_of : (c : ℕ) (rows : List Row) → Each (Route c) rows → Each (IsPath set) rows
+  pub path_of : (c : ℕ) (rows : List Row) → Each (Route c) rows → Each (IsPath set) rows
   path_of c [] t = tt
   path_of c (r ∷ rows) t = (t.0.follows, path_of c rows t.1)
 

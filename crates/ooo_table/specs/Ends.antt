@@ -33,6 +33,10 @@ abbrev pub or_else : Option ℕ → Option ℕ → Option ℕ
 or_else (Some a) b = Some a
 or_else None b = b
 
+abbrev pub or_stop : Bool → Option ℕ → Option Extent
+or_stop stops (Some row) = Some (AtCommit row)
+or_stop stops None = if stops then Some AtStop else None
+
 module _ (set : Setting) where
   -- ---- what a cycle meets
 
@@ -83,10 +87,6 @@ module _ (set : Setting) where
   last_commit most c [] = None
   last_commit most c (r ∷ older) =
       or_else (last_commit most c older) (if is_last most c older r then Some (length older) else None)
-
-  abbrev pub or_stop : Bool → Option ℕ → Option Extent
-  or_stop stops (Some row) = Some (AtCommit row)
-  or_stop stops None = if stops then Some AtStop else None
 
   -- how a run with a budget of commits ends in the cycle after c whole ones, if it does
   abbrev pub end_in : ℕ → ℕ → Option Extent

@@ -20,3 +20,5 @@ pub mod CycleLaws
 pub mod Machine
 pub mod Events
 pub mod Counts
+pub mod RunLaws
+pub mod MachineLaws

@@ -5,7 +5,7 @@ ghost use Rattle.ooo_table.specs.Cycle.{table};
 ghost use Rattle.ooo_table.specs.Ends.{Extent, rows_at, exited, commits_in, stops_in};
 ghost use Rattle.ooo_table.specs.Later.{Each, Grew};
 ghost use Rattle.ooo_table.specs.Legal.{ProducersDone, UnitsSuffice, WidthsKept, PlacesKept, CommitsInOrder, MemoryInOrder, WrongRowsSquashed, IssueRules, Quiet, Happened, Legal};
-ghost use Rattle.ooo_table.specs.PathLaws.{IsPath};
+ghost use Rattle.ooo_table.specs.PathLaws.{IsPath, GoesOn, ActsOnCopy};
 ghost use Rattle.ooo_table.specs.Bound.{Bounded, bound};
 
 /// Marks that are set never change, and rows never go.
@@ -84,6 +84,17 @@ pub fn every_end_is_legal()
 /// The right rows are one path: each goes on where the right row before it leads, on the state that one left.
 pub fn one_path()
     ensures { (set : Setting) (c : ℕ) → 1 ≤ set.config.penalty → Each (IsPath set) (table set c).rows }
+{}
+
+/// The first row is right, and each wrong row goes on from the row before it, at the predicted address.
+pub fn wrong_rows_go_on()
+    ensures { (set : Setting) (e : Extent) (c : ℕ) → Each (GoesOn set) (rows_at set e c) }
+{}
+
+/// A dispatched wrong row acts on a copy of the state that the newest right row before it left, with the effects of the
+/// dispatched wrong rows between in their order.
+pub fn wrong_rows_act_on_copies()
+    ensures { (set : Setting) (e : Extent) (c : ℕ) → Each (ActsOnCopy set) (rows_at set e c) }
 {}
 
 /// While no exit has committed, a row commits or the machine stops in every K cycles.

@@ -9,15 +9,22 @@
 //! types in which a core and its texts speak of it.
 #![tactic(auto)]
 
+mod commit_bound;
 mod config;
 mod event;
 mod laws;
+mod run_laws;
 
+pub use commit_bound::bound;
 pub use config::OooConfig;
 pub use event::{EndWord, Event, Events, Log, Mark};
 pub use laws::{
     bound_holds, commits_in_order, ends_lie_between, every_end_is_legal, issue_keeps_its_rules,
     marks_have_happened, marks_stay, memory_is_in_order, one_path, places_suffice,
     producers_are_done, right_rows_stay, squashed_rows_are_quiet, units_suffice, widths_are_kept,
-    wrong_rows_are_squashed,
+    wrong_rows_act_on_copies, wrong_rows_are_squashed, wrong_rows_go_on,
+};
+pub use run_laws::{
+    commits_are_the_run, commits_come_in_time, exits_end_the_run, right_rows_are_steps,
+    stops_end_the_run, worked_bounds,
 };

@@ -35,7 +35,7 @@ use Rattle.ooo_table.proofs.Marks.{fetch_adds}
 abbrev pub Focus : (List Row → Row → Type 0) → List Row → Type 0
 Focus P rows = (younger : List Row) × (older : List Row) × (r : Row) × (rows ≡ younger ++ (r ∷ older)) × P older r
 
-sweep_split : (f : List Row → Row → Row) (younger rest : List Row) → (new : List Row) × (sweep f (younger ++ rest) ≡ new ++ sweep f rest)
+pub sweep_split : (f : List Row → Row → Row) (younger rest : List Row) → (new : List Row) × (sweep f (younger ++ rest) ≡ new ++ sweep f rest)
 sweep_split f [] rest = ([], refl)
 sweep_split f (y ∷ younger) rest =
     let ih : (new : List Row) × (sweep f (younger ++ rest) ≡ new ++ sweep f rest) = sweep_split f younger rest in
