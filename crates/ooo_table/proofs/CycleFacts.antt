@@ -18,13 +18,13 @@ use Rattle.ooo_table.specs.Cycle.{table, after_commit, after_recover, after_issu
 use Rattle.ooo_table.specs.Later.{Each, Where}
 use Rattle.ooo_table.specs.Legal.{CommitAllowed}
 use Rattle.ooo_table.specs.Bound.{Bounded}
-use Rattle.ooo_table.specs.CycleLaws.{Fresh, Comes, Newest, as_next, Leads, Linked, RecoversLive}
+use Rattle.ooo_table.specs.CycleLaws.{Fresh, Comes, Newest, as_next, Leads, Linked, RecoversLive, RowFacts, Passed, SquashSpreads}
 use Rattle.ooo_table.proofs.Order.{Changed, Now, below_written}
-use Rattle.ooo_table.proofs.RowFacts.{RowFacts, Passed, passed_stays, waits_not, sweep_keeps, changed_commit, changed_squash, changed_dispatch, changed_issue, facts_commit, facts_squash, facts_issue, facts_dispatch, facts_table}
+use Rattle.ooo_table.proofs.RowFacts.{passed_stays, waits_not, sweep_keeps, changed_commit, changed_squash, changed_dispatch, changed_issue, facts_commit, facts_squash, facts_issue, facts_dispatch, facts_table}
 use Rattle.ooo_table.proofs.Rising.{rises_stores, rises_table}
 use Rattle.ooo_table.proofs.Route.{Route, Ahead, stage_keeps, recover_keeps, route_table, any_same, zip_of, find_none}
 use Rattle.ooo_table.proofs.Times.{Times, times_table, times_later, times_commit, times_squash, times_issue, times_dispatch}
-use Rattle.ooo_table.proofs.Quiet.{each_turn, Own, Follows, follows_sweep, both_table, own_commit, same_commit, same_issue, squash_follows, squash_still}
+use Rattle.ooo_table.proofs.Quiet.{each_turn, Own, follows_sweep, both_table, own_commit, same_commit, same_issue, squash_follows, squash_still}
 use Rattle.ooo_table.proofs.Kept.{Kept, kept_table}
 
 module _ (set : Setting) where
@@ -46,13 +46,13 @@ module _ (set : Setting) where
   pub facts_four : (c : ℕ) → Each (RowFacts set c) (after_dispatch set c).rows
   facts_four c = (sweep_keeps (RowFacts set c) (Changed c) (dispatch_row set c) (changed_dispatch set c) (facts_dispatch set c) (after_issue set c).rows (facts_three c)).1
 
-  pub follows_one : (c : ℕ) → Each Follows (after_commit set c).rows
+  pub follows_one : (c : ℕ) → Each SquashSpreads (after_commit set c).rows
   follows_one c = follows_sweep (commit_row set c) (same_commit set c) (table set c).rows (both_table set c).1
 
-  pub follows_two : (c : ℕ) → Each Follows (after_recover set c).rows
+  pub follows_two : (c : ℕ) → Each SquashSpreads (after_recover set c).rows
   follows_two c = squash_follows set c (after_commit set c).rows (each_turn _ _ (commit_row set c) (own_commit set c c) (table set c).rows (both_table set c).0) (follows_one c)
 
-  pub follows_three : (c : ℕ) → Each Follows (after_issue set c).rows
+  pub follows_three : (c : ℕ) → Each SquashSpreads (after_issue set c).rows
   follows_three c =
       let base = store_references set c (after_recover set c).rows (after_recover set c).references in
       follows_sweep (issue_row set c base (after_recover set c).rows) (same_issue set c base (after_recover set c).rows) (after_recover set c).rows (follows_two c)

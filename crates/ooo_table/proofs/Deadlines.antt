@@ -22,6 +22,7 @@ use Rattle.ooo_table.specs.Cycle.{table, cycle}
 use Rattle.ooo_table.specs.Ends.{stops_in, commits_in, exited}
 use Rattle.ooo_table.specs.Later.{Each, Where}
 use Rattle.ooo_table.specs.Bound.{Bounded, Rises}
+use Rattle.ooo_table.specs.CycleLaws.{Focus}
 use Rattle.ooo_table.proofs.Over.{Over, AllOver, count_none, each_map, commit_same, issue_same, dispatch_same, swept_same, swept_over, all_ready, all_from, any_from, not_waiting}
 use Rattle.ooo_table.proofs.Cases.{commits_now, dispatches_now, issues_now, accesses_now, left_over, none_live}
 use Rattle.ooo_table.proofs.Units.{unit_left}
@@ -30,10 +31,6 @@ use Rattle.ooo_table.proofs.Rising.{rises_stores, rises_loads, rises_table}
 use Rattle.ooo_table.proofs.Route.{Route, Ahead, any_same, right_stands, stage_keeps, route_table}
 use Rattle.ooo_table.proofs.RowFacts.{changed_commit}
 use Rattle.ooo_table.proofs.Marks.{fetch_adds}
-
--- some row has a fact, with the rows before it
-abbrev pub Focus : (List Row → Row → Type 0) → List Row → Type 0
-Focus P rows = (younger : List Row) × (older : List Row) × (r : Row) × (rows ≡ younger ++ (r ∷ older)) × P older r
 
 pub sweep_split : (f : List Row → Row → Row) (younger rest : List Row) → (new : List Row) × (sweep f (younger ++ rest) ≡ new ++ sweep f rest)
 sweep_split f [] rest = ([], refl)
@@ -57,7 +54,7 @@ pub each_split : (P : List Row → Row → Type 0) (younger older : List Row) (r
 each_split P [] older r h = h
 each_split P (y ∷ younger) older r h = each_split P younger older r h.1
 
-focus_every : (p : List Row → Row → Bool) (P : List Row → Row → Type 0) (rows : List Row) → Focus P rows → ((older : List Row) (r : Row) → P older r → p older r ≡ false) → every p rows ≡ false
+pub focus_every : (p : List Row → Row → Bool) (P : List Row → Row → Type 0) (rows : List Row) → Focus P rows → ((older : List Row) (r : Row) → P older r → p older r ≡ false) → every p rows ≡ false
 focus_every p P rows (younger, older, r, e, h) never = ap (every p) e ∙ deep younger
   where
     deep : (younger : List Row) → every p (younger ++ (r ∷ older)) ≡ false

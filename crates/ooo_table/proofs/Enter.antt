@@ -12,10 +12,11 @@ use Rattle.ooo_table.specs.Ends.{stops_in, commits_in, exited}
 use Rattle.ooo_table.specs.Later.{Each, Where}
 use Rattle.ooo_table.specs.Legal.{CommitAllowed}
 use Rattle.ooo_table.specs.Bound.{Bounded}
-use Rattle.ooo_table.proofs.RowFacts.{RowFacts, done_issued, below_is_some}
+use Rattle.ooo_table.specs.CycleLaws.{RowFacts, Focus}
+use Rattle.ooo_table.proofs.RowFacts.{done_issued, below_is_some}
 use Rattle.ooo_table.proofs.Over.{Over, AllOver}
 use Rattle.ooo_table.proofs.Times.{Times, Gone, Reads, times_table}
-use Rattle.ooo_table.proofs.Deadlines.{Focus, focus_more, each_split, Ends, Phase, queued, waits, runs, addressed, reads, Front, hold_most, latency_most, commits_soon}
+use Rattle.ooo_table.proofs.Deadlines.{focus_more, each_split, Ends, Phase, queued, waits, runs, addressed, reads, Front, hold_most, latency_most, commits_soon}
 use Rattle.ooo_table.proofs.RowFacts.{facts_table}
 
 -- all right rows have committed

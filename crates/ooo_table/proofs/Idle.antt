@@ -20,12 +20,12 @@ use Rattle.ooo_table.specs.Ends.{stops_in, commits_in, exited}
 use Rattle.ooo_table.specs.Later.{Each, Where}
 use Rattle.ooo_table.specs.PathLaws.{newest}
 use Rattle.ooo_table.specs.Bound.{Bounded, bound}
-use Rattle.ooo_table.proofs.RowFacts.{RowFacts}
+use Rattle.ooo_table.specs.CycleLaws.{RowFacts, Focus}
 use Rattle.ooo_table.proofs.Over.{Over, AllOver, count_none, each_map, commit_same, issue_same, dispatch_same, swept_same, any_from, not_waiting}
 use Rattle.ooo_table.proofs.Times.{Times, Reads, times_table}
 use Rattle.ooo_table.proofs.Route.{Ahead, route_table}
 use Rattle.ooo_table.proofs.Marks.{fetch_adds}
-use Rattle.ooo_table.proofs.Deadlines.{Focus, each_split, commit_row_keeps, squash_row_keeps, dispatch_row_keeps, each_sweep, still_running}
+use Rattle.ooo_table.proofs.Deadlines.{each_split, commit_row_keeps, squash_row_keeps, dispatch_row_keeps, each_sweep, still_running}
 use Rattle.ooo_table.proofs.RowFacts.{facts_table}
 use Rattle.ooo_table.proofs.Enter.{Settled, Oldest, oldest, all_over, over_row, fetched_commits}
 use Rattle.ooo_table.proofs.Route.{Strays, find_none}

@@ -28,3 +28,5 @@ pub mod Leads
 pub mod Run
 pub mod Timely
 pub mod WrongRows
+pub mod Stops
+pub mod Stages

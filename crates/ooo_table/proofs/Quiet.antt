@@ -18,6 +18,7 @@ use Rattle.ooo_table.specs.Cycle.{table}
 use Rattle.ooo_table.specs.Ends.{Extent, Whole, AtCommit, AtStop, rows_at, commit_up_to}
 use Rattle.ooo_table.specs.Later.{Each, Where, By}
 use Rattle.ooo_table.specs.Legal.{Before, Quiet}
+use Rattle.ooo_table.specs.CycleLaws.{SquashSpreads}
 use Rattle.ooo_table.proofs.Order.{Changed, Now}
 use Rattle.ooo_table.proofs.RowFacts.{sweep_keeps, changed_squash}
 use Rattle.ooo_table.proofs.Route.{any_same, zip_of}
@@ -70,15 +71,11 @@ own_before n r t = record { dispatched = d r.dispatched t.dispatched; issued = t
     d None w = tt
     d (Some y) w = w.0
 
--- a squash of an older row squashes this one, unless this one was fetched later
-abbrev pub Follows : List Row → Row → Type 0
-Follows older r = Each (λ _ o. Where o.squashed (λ x. (x ≤ r.fetched.at) ⊎ By x r.squashed)) older
-
 -- what was fetched and its squash are unchanged
 abbrev pub Same : Row → Row → Type 0
 Same r s = (s.fetched ≡ r.fetched) × (s.squashed ≡ r.squashed)
 
-follows_stay : (older before : List Row) (r s : Row) → AllZip Same older before → Same r s → Follows older r → Follows before s
+follows_stay : (older before : List Row) (r s : Row) → AllZip Same older before → Same r s → SquashSpreads older r → SquashSpreads before s
 follows_stay [] [] r s zip e h = tt
 follows_stay (o ∷ older) (o' ∷ before) r s zip e h =
     let k : Where o.squashed (λ x. (x ≤ s.fetched.at) ⊎ By x r.squashed) = subst (λ w. Where o.squashed (λ x. (x ≤ w.at) ⊎ By x r.squashed)) (sym e.0) h.0 in
@@ -87,8 +84,8 @@ follows_stay (o ∷ older) (o' ∷ before) r s zip e h =
 follows_stay [] (o' ∷ before) r s zip e h = absurd zip
 follows_stay (o ∷ older) [] r s zip e h = absurd zip
 
-pub follows_sweep : (f : List Row → Row → Row) → ((before : List Row) (r : Row) → Same r (f before r)) → (rows : List Row) → Each Follows rows → Each Follows (sweep f rows)
-follows_sweep f same rows h = (sweep_keeps Follows Same f same (λ older before r zip below k. follows_stay older before r (f before r) zip (same before r) k) rows h).1
+pub follows_sweep : (f : List Row → Row → Row) → ((before : List Row) (r : Row) → Same r (f before r)) → (rows : List Row) → Each SquashSpreads rows → Each SquashSpreads (sweep f rows)
+follows_sweep f same rows h = (sweep_keeps SquashSpreads Same f same (λ older before r zip below k. follows_stay older before r (f before r) zip (same before r) k) rows h).1
 
 module _ (set : Setting) where
   pub own_commit : (n c : ℕ) (before : List Row) (r : Row) → Own n r → Own n (commit_row set c before r)
@@ -170,7 +167,7 @@ module _ (set : Setting) where
   by_more x (Some y) n c (inr (e, i, at)) h = absurd cc
 
   -- behind a row that recovers everything is squashed
-  all_taken : (c : ℕ) (r s : Row) → Changed c r s → By c s.squashed → (older before : List Row) → AllZip (Changed c) older before → Follows older r → Follows before s
+  all_taken : (c : ℕ) (r s : Row) → Changed c r s → By c s.squashed → (older before : List Row) → AllZip (Changed c) older before → SquashSpreads older r → SquashSpreads before s
   all_taken c r s ch by [] [] zip h = tt
   all_taken c r s ch by (o ∷ older) (o' ∷ before) zip h = (now o.squashed o'.squashed zip.0.squashed h.0, all_taken c r s ch by older before zip.1 h.1)
     where
@@ -193,7 +190,7 @@ module _ (set : Setting) where
       let k : (recovers set c r ≡ false) × (list_any (recovers set c) rows ≡ false) = or_parts (recovers set c r) (list_any (recovers set c) rows) e in
       ap (λ l. squash_row set c l r ∷ l) (squash_still c rows k.1) ∙ ap (λ x. x ∷ rows) (ap (λ b. cond (b && is_none r.squashed) (record r { squashed = Some c }) r) k.1)
 
-  follows_squash : (c : ℕ) (older : List Row) (r : Row) → Own c r → Follows older r → Follows (sweep (squash_row set c) older) (squash_row set c (sweep (squash_row set c) older) r)
+  follows_squash : (c : ℕ) (older : List Row) (r : Row) → Own c r → SquashSpreads older r → SquashSpreads (sweep (squash_row set c) older) (squash_row set c (sweep (squash_row set c) older) r)
   follows_squash c older r own h = by_any (list_any (recovers set c) before) refl
     where
       before : List Row
@@ -217,15 +214,15 @@ module _ (set : Setting) where
       left : list_any (recovers set c) before ≡ false → squash_row set c before r ≡ r
       left e = ap (λ b. cond (b && is_none r.squashed) (record r { squashed = Some c }) r) e
 
-      by_any : (b : Bool) → list_any (recovers set c) before ≡ b → Follows before (squash_row set c before r)
+      by_any : (b : Bool) → list_any (recovers set c) before ≡ b → SquashSpreads before (squash_row set c before r)
       by_any true e = all_taken c r (squash_row set c before r) (changed_squash set c before r) (taken (list_any (recovers set c) before) (is_none r.squashed) e refl) older before zip h
-      by_any false e = subst (λ s. Follows before s) (sym (left e)) (subst (λ l. Follows l r) (sym (still e)) h)
+      by_any false e = subst (λ s. SquashSpreads before s) (sym (left e)) (subst (λ l. SquashSpreads l r) (sym (still e)) h)
 
-  pub squash_follows : (c : ℕ) (rows : List Row) → Each (λ _. Own c) rows → Each Follows rows → Each Follows (sweep (squash_row set c) rows)
+  pub squash_follows : (c : ℕ) (rows : List Row) → Each (λ _. Own c) rows → Each SquashSpreads rows → Each SquashSpreads (sweep (squash_row set c) rows)
   squash_follows c [] own h = tt
   squash_follows c (r ∷ rows) own h = (follows_squash c rows r own.0 h.0, squash_follows c rows own.1 h.1)
 
-  fresh_follows : (c : ℕ) (rows : List Row) (u : NextFetch) (look : Look) (queued : ℕ) → Each (λ _. Own (suc c)) rows → Follows rows (fetched_row set c u look queued)
+  fresh_follows : (c : ℕ) (rows : List Row) (u : NextFetch) (look : Look) (queued : ℕ) → Each (λ _. Own (suc c)) rows → SquashSpreads rows (fetched_row set c u look queued)
   fresh_follows c [] u look queued h = tt
   fresh_follows c (o ∷ rows) u look queued h = (by_squash o.squashed h.0.squashed, fresh_follows c rows u look queued h.1)
     where
@@ -234,7 +231,7 @@ module _ (set : Setting) where
       by_squash (Some x) w = let k : x < suc c = w.0 in inl (omega arith)
 
   abbrev pub Both : ℕ → List Row → Type 0
-  Both n rows = Each (λ _. Own n) rows × Each Follows rows
+  Both n rows = Each (λ _. Own n) rows × Each SquashSpreads rows
 
   both_fetched : (n c : ℕ) (t : Table) → Both (suc c) t.rows → Both (suc c) (fetch_up_to set n c t).rows
   both_fetched zero c t h = h
@@ -253,11 +250,11 @@ module _ (set : Setting) where
       let three = issue set c two in
       let base = store_references set c two.rows two.references in
       let o1 : Each (λ _. Own c) one.rows = each_turn (Own c) (Own c) (commit_row set c) (own_commit c c) t.rows h.0 in
-      let f1 : Each Follows one.rows = follows_sweep (commit_row set c) (same_commit c) t.rows h.1 in
+      let f1 : Each SquashSpreads one.rows = follows_sweep (commit_row set c) (same_commit c) t.rows h.1 in
       let o2 : Each (λ _. Own (suc c)) two.rows = each_turn (Own c) (Own (suc c)) (squash_row set c) (own_squash c) one.rows o1 in
-      let f2 : Each Follows two.rows = squash_follows c one.rows o1 f1 in
+      let f2 : Each SquashSpreads two.rows = squash_follows c one.rows o1 f1 in
       let o3 : Each (λ _. Own (suc c)) three.rows = each_turn (Own (suc c)) (Own (suc c)) (issue_row set c base two.rows) (own_issue c base two.rows) two.rows o2 in
-      let f3 : Each Follows three.rows = follows_sweep (issue_row set c base two.rows) (same_issue c base two.rows) two.rows f2 in
+      let f3 : Each SquashSpreads three.rows = follows_sweep (issue_row set c base two.rows) (same_issue c base two.rows) two.rows f2 in
       (each_turn (Own (suc c)) (Own (suc c)) (dispatch_row set c) (own_dispatch c) three.rows o3, follows_sweep (dispatch_row set c) (same_dispatch c) three.rows f3)
 
   pub both_table : (c : ℕ) → Both c (table set c).rows
@@ -293,7 +290,7 @@ module _ (set : Setting) where
       it None w = tt
       it (Some x) w = w.1
 
-  stood_quiet : (n : ℕ) (r : Row) → Own n r → is_some r.dispatched ≡ true → (older : List Row) → Follows older r → Each (λ _ o. unsquashed_before r.dispatched o ≡ true → Where o.squashed (λ x. Before x r)) older
+  stood_quiet : (n : ℕ) (r : Row) → Own n r → is_some r.dispatched ≡ true → (older : List Row) → SquashSpreads older r → Each (λ _ o. unsquashed_before r.dispatched o ≡ true → Where o.squashed (λ x. Before x r)) older
   stood_quiet n r t came [] h = tt
   stood_quiet n r t came (o ∷ older) h = ((λ s. by_dispatch r.dispatched t.dispatched came s h.0), stood_quiet n r t came older h.1)
     where

@@ -19,8 +19,9 @@ use Rattle.ooo_table.specs.Cycle.{table}
 use Rattle.ooo_table.specs.Ends.{Extent, Whole, AtCommit, AtStop, rows_at, commit_up_to}
 use Rattle.ooo_table.specs.Later.{Each}
 use Rattle.ooo_table.specs.Legal.{PlacesKept}
+use Rattle.ooo_table.specs.CycleLaws.{RowFacts, Passed}
 use Rattle.ooo_table.proofs.Order.{Changed, Now}
-use Rattle.ooo_table.proofs.RowFacts.{RowFacts, Passed, changed_commit, changed_squash, changed_issue, facts_table, facts_commit, facts_squash, facts_issue, sweep_keeps}
+use Rattle.ooo_table.proofs.RowFacts.{changed_commit, changed_squash, changed_issue, facts_table, facts_commit, facts_squash, facts_issue, sweep_keeps}
 use Rattle.ooo_table.proofs.Kept.{changed_up_to}
 use Rattle.ooo_table.proofs.Counts.{both', count_true, count_false, swept_less, after_commit, after_recover, after_issue, after_dispatch, less_up_to, less_marks, fetched_same}
 

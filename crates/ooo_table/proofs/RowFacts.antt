@@ -19,21 +19,9 @@ use Rattle.ooo_table.specs.Fetch.{fetch_up_to, fetch_one, may_fetch, fetched_row
 use Rattle.ooo_table.specs.Cycle.{table, cycle}
 use Rattle.ooo_table.specs.Later.{Each, Where, By}
 use Rattle.ooo_table.specs.Legal.{CommitAllowed, InOrder, CommitsInOrder}
+use Rattle.ooo_table.specs.CycleLaws.{RowFacts, Passed}
 use Rattle.ooo_table.proofs.Marks.{none_of}
 use Rattle.ooo_table.proofs.Order.{Changed, Now, done_stays}
-
-abbrev pub Passed : List Row → Type 0
-Passed older = Each (λ _ o. waiting o ≡ false) older
-
--- the facts of a row in cycle c, with the rows before it
-pub record RowFacts (set : Setting) (c : ℕ) (older : List Row) (r : Row) : Type 0 where
-  pub dispatched_by : Where r.dispatched (λ d. d ≤ c)
-  pub committed_by : Where r.committed (λ d. d ≤ c)
-  pub came : is_some r.issued ≡ true → is_some r.dispatched ≡ true
-  pub reached : is_some r.access ≡ true → is_some r.issued ≡ true
-  pub left : is_some r.committed ≡ true → is_some r.dispatched ≡ true
-  pub first : is_some r.dispatched ≡ true → Passed older
-  pub order : Where r.committed (CommitAllowed set older r)
 
 -- a sweep keeps a fact that each of its turns keeps
 pub sweep_keeps : (P : List Row → Row → Type 0) (R : Row → Row → Type 0) (f : List Row → Row → Row)

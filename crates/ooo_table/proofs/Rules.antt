@@ -14,8 +14,9 @@ use Rattle.ooo_table.specs.Dispatch.{dispatch_row, dispatches}
 use Rattle.ooo_table.specs.Ends.{Extent, rows_at}
 use Rattle.ooo_table.specs.Later.{Each, Where, Past}
 use Rattle.ooo_table.specs.Legal.{CommitAllowed, IssueRules}
+use Rattle.ooo_table.specs.CycleLaws.{Passed}
 use Rattle.ooo_table.proofs.Order.{Changed, Now}
-use Rattle.ooo_table.proofs.RowFacts.{Passed, changed_commit, changed_squash, changed_dispatch, done_issued}
+use Rattle.ooo_table.proofs.RowFacts.{changed_commit, changed_squash, changed_dispatch, done_issued}
 use Rattle.ooo_table.proofs.Kept.{Kept, Turn, kept_at, each_of}
 use Rattle.ooo_table.proofs.Counts.{both', past_kept, past_later}
 use Rattle.ooo_table.proofs.Sound.{Sound, sound_kept, sound_later}

@@ -1,8 +1,7 @@
 -- Right rows are the steps of the functional run, and commits its first ones.
 use Rattle.std.proofs.Common.{◌≡◌, ℕ, suc, ◌+◌, ◌≤◌, Bool, true, false, cond, List, [], ◌∷◌, ◌++◌, Option, Some, None, refl, sym, ap, ◌∙◌, subst, arith, append-nil}
-use Rattle.std.specs.Prelude.{is_none, is_some, count_by, find, not, ◌&&◌, ◌||◌, ◌==◌, nat_lt}
-use Rattle.std.specs.List.{list_all}
-use Rattle.std.proofs.lemmas.Bool.{cond_both, cond-true, cond-false, and_parts, not-true, eqb-true, false_from_ne_true}
+use Rattle.std.specs.Prelude.{is_none, is_some, count_by, find, not, ◌&&◌, ◌||◌, ◌==◌}
+use Rattle.std.proofs.lemmas.Bool.{cond_both, cond-true, cond-false, and_parts, not-true, false_from_ne_true}
 use Rattle.pisa_isa.specs.declared.instr.Instr.{Instr}
 use Rattle.pisa_step.specs.declared.cause.Cause.{Cause}
 use Rattle.pisa_step.specs.declared.cause.Cause.TheVariants as cause
@@ -12,7 +11,7 @@ use Rattle.sim_safe.specs.Record.{item_of}
 use Rattle.sim_safe.specs.Run.{items_of, after}
 use Rattle.sim_safe.specs.Step.{Outcome, Next, Halt, step_of}
 use Rattle.sim_safe.proofs.Steps.{Reaches, reaches_none, reaches_on, items_none, items_stop, after_stop, end_stop, after_all}
-use Rattle.ooo_table.specs.Row.{Row, every, sweep}
+use Rattle.ooo_table.specs.Row.{Row, sweep}
 use Rattle.ooo_table.specs.Table.{Setting}
 use Rattle.ooo_table.specs.Path.{execution, execution_of}
 use Rattle.ooo_table.specs.Done.{live, waiting}
@@ -20,7 +19,7 @@ use Rattle.ooo_table.specs.Commit.{commit, commit_row, commits}
 use Rattle.ooo_table.specs.Recovery.{recover}
 use Rattle.ooo_table.specs.References.{store_references}
 use Rattle.ooo_table.specs.Issue.{issue, issue_row, issues, accesses, access_of}
-use Rattle.ooo_table.specs.Dispatch.{dispatch_row, dispatches, may_enter, is_first, stops_machine}
+use Rattle.ooo_table.specs.Dispatch.{dispatch_row, dispatches, may_enter}
 use Rattle.ooo_table.specs.Cycle.{table}
 use Rattle.ooo_table.specs.Ends.{Extent, Whole, AtCommit, AtStop, rows_at, commit_up_to, stops_in, last_commit, or_stop, end_in}
 use Rattle.ooo_table.specs.Later.{Each, Where, By}
@@ -29,13 +28,15 @@ use Rattle.ooo_table.specs.PathLaws.{newest, Starts, IsPath}
 use Rattle.ooo_table.specs.Machine.{Given, setting_of, executed_at, executed_as, instruction_at}
 use Rattle.ooo_table.specs.Events.{state_behind, committed_state, stop_word, end_word}
 use Rattle.ooo_table.specs.RunLaws.{right_rows, commits_among, IsStep, recorded_by, committed_items, IsRun, IsWhole}
+use Rattle.ooo_table.specs.CycleLaws.{Focus, StopsAt}
 use Rattle.ooo_table.proofs.RowFacts.{changed_commit, changed_dispatch, changed_issue}
 use Rattle.ooo_table.proofs.Route.{stage_keeps, recover_keeps, route_table, path_of}
 use Rattle.ooo_table.proofs.Kept.{Kept, kept_at, changed_up_to}
 use Rattle.ooo_table.proofs.Counts.{both', count_true, count_false}
 use Rattle.ooo_table.proofs.Sound.{Sound, sound_at}
-use Rattle.ooo_table.proofs.Deadlines.{Focus, focus_more, sweep_split, each_split}
+use Rattle.ooo_table.proofs.Deadlines.{sweep_split, each_split}
 use Rattle.ooo_table.proofs.Recovered.{untouched_at}
+use Rattle.ooo_table.proofs.Stops.{stop_focus}
 use Rattle.ooo_table.proofs.Leads.{LeadsOn, step_leads, items_next, exited_halts}
 
 -- ---- facts of rows, wherever a run ends
@@ -278,54 +279,6 @@ module _ (g : Given) where
   exit_at e c code pen h =
       whole (rows_at (setting_of g) e c) (cause.Exited code) (ran_at e c pen) (exited_halts g.trace (committed_state (setting_of g) (rows_at (setting_of g) e c)) code h)
 
-  -- the row at which the machine stops, and the rows before it
-  pub record StopsAt (c : ℕ) (older : List Row) (r : Row) : Type 0 where
-    pub waits : waiting r ≡ true
-    pub right : r.fetched.right ≡ true
-    pub stops : (execution (setting_of g) r).stops ≡ true
-    pub passed : Each (λ _ o. waiting o ≡ false) older
-    pub gone : Each (λ _ o. live o ≡ false) older
-
-  stop_focus : (c : ℕ) (rows : List Row) → not (every (λ older r. not (stops_machine (setting_of g) c older r)) rows) ≡ true → Focus (λ older r. stops_machine (setting_of g) c older r ≡ true) rows
-  stop_focus c [] h = absurd cc
-  stop_focus c (r ∷ older) h = by_self (stops_machine (setting_of g) c older r) refl h (stop_focus c older)
-    where
-      by_self : (b : Bool) → stops_machine (setting_of g) c older r ≡ b → not (not b && every (λ older r. not (stops_machine (setting_of g) c older r)) older) ≡ true
-          → (not (every (λ older r. not (stops_machine (setting_of g) c older r)) older) ≡ true → Focus (λ older r. stops_machine (setting_of g) c older r ≡ true) older)
-          → Focus (λ older r. stops_machine (setting_of g) c older r ≡ true) (r ∷ older)
-      by_self true e h ih = ([], older, r, refl, e)
-      by_self false e h ih = focus_more (λ older r. stops_machine (setting_of g) c older r ≡ true) r older (ih h)
-
-  none_counted : (p : Row → Bool) (rows : List Row) → count_by p rows ≡ 0 → Each (λ _ o. p o ≡ false) rows
-  none_counted p [] h = tt
-  none_counted p (o ∷ rows) h = (by_self (p o) refl, none_counted p rows (by_rest (p o) refl))
-    where
-      by_self : (b : Bool) → p o ≡ b → p o ≡ false
-      by_self true e = absurd (omega (arith, h, count_true p o rows e))
-      by_self false e = e
-
-      by_rest : (b : Bool) → p o ≡ b → count_by p rows ≡ 0
-      by_rest true e = absurd (omega (arith, h, count_true p o rows e))
-      by_rest false e = omega (arith, h, count_false p o rows e)
-
-  all_passed : (rows : List Row) → list_all (λ o. not (waiting o)) rows ≡ true → Each (λ _ o. waiting o ≡ false) rows
-  all_passed [] h = tt
-  all_passed (o ∷ rows) h = let k : (not (waiting o) ≡ true) × (list_all (λ o. not (waiting o)) rows ≡ true) = and_parts (not (waiting o)) _ h in (not-true (waiting o) k.0, all_passed rows k.1)
-
-  stop_facts : (c : ℕ) (older : List Row) (r : Row) → stops_machine (setting_of g) c older r ≡ true → StopsAt c older r
-  stop_facts c older r h =
-      let k1 : ((is_first (setting_of g) c older r && r.fetched.right && (execution (setting_of g) r).stops) ≡ true) × ((count_by live older == 0) ≡ true) = and_parts _ _ h in
-      let k2 : ((is_first (setting_of g) c older r && r.fetched.right) ≡ true) × ((execution (setting_of g) r).stops ≡ true) = and_parts _ _ k1.0 in
-      let k3 : (is_first (setting_of g) c older r ≡ true) × (r.fetched.right ≡ true) = and_parts _ _ k2.0 in
-      let k4 : ((waiting r && nat_lt r.fetched.queued c) ≡ true) × (list_all (λ o. not (waiting o)) older ≡ true) = and_parts _ _ k3.0 in
-      record {
-        waits = (and_parts (waiting r) (nat_lt r.fetched.queued c) k4.0).0;
-        right = k3.1;
-        stops = k2.1;
-        passed = all_passed older k4.1;
-        gone = none_counted live older (eqb-true (count_by live older) 0 k1.1);
-      }
-
   -- the dispatch stage leaves all of them as they are
   undispatched : (c : ℕ) (rows : List Row) → Each (λ _ o. waiting o ≡ false) rows → sweep (dispatch_row (setting_of g) c) rows ≡ rows
   undispatched c [] h = refl
@@ -336,7 +289,7 @@ module _ (g : Given) where
       waits : dispatches (setting_of g) c rows o ≡ true → waiting o ≡ true
       waits d = grind (arith, and_parts)
 
-  refused : (c : ℕ) (older : List Row) (r : Row) → StopsAt c older r → dispatch_row (setting_of g) c older r ≡ r
+  refused : (c : ℕ) (older : List Row) (r : Row) → StopsAt (setting_of g) c older r → dispatch_row (setting_of g) c older r ≡ r
   refused c older r s = cond-false (dispatches (setting_of g) c older r) (record r { dispatched = Some c }) r (false_from_ne_true _ (λ d. both' s.stops (not-true _ (entered (enter d)))))
     where
       enter : dispatches (setting_of g) c older r ≡ true → may_enter (setting_of g) older r ≡ true
@@ -349,11 +302,10 @@ module _ (g : Given) where
           (and_parts _ _ k).0
 
   -- so in the rows at a stop this row stands as it was found
-  stop_row : (c : ℕ) → stops_in (setting_of g) c (table (setting_of g) c) ≡ true → Focus (StopsAt c) (rows_at (setting_of g) AtStop c)
+  stop_row : (c : ℕ) → stops_in (setting_of g) c (table (setting_of g) c) ≡ true → Focus (StopsAt (setting_of g) c) (rows_at (setting_of g) AtStop c)
   stop_row c h =
       let rows : List Row = (issue (setting_of g) c (recover (setting_of g) c (commit (setting_of g) c (table (setting_of g) c)))).rows in
-      let (younger, older, r, e, s) = stop_focus c rows h in
-      let facts : StopsAt c older r = stop_facts c older r s in
+      let (younger, older, r, e, facts) = stop_focus (setting_of g) c rows h in
       let new : (new : List Row) × (sweep (dispatch_row (setting_of g) c) (younger ++ (r ∷ older)) ≡ new ++ sweep (dispatch_row (setting_of g) c) (r ∷ older)) = sweep_split (dispatch_row (setting_of g) c) younger (r ∷ older) in
       let same : sweep (dispatch_row (setting_of g) c) (r ∷ older) ≡ r ∷ older = ap (λ l. dispatch_row (setting_of g) c l r ∷ l) (undispatched c older facts.passed) ∙ ap (λ x. x ∷ older) (refused c older r facts) in
       (new.0, older, r, ap (sweep (dispatch_row (setting_of g) c)) e ∙ (new.1 ∙ ap (λ l. new.0 ++ l) same), facts)

@@ -17,8 +17,9 @@ use Rattle.ooo_table.specs.Dispatch.{dispatch_row, dispatches}
 use Rattle.ooo_table.specs.Ends.{Extent, rows_at}
 use Rattle.ooo_table.specs.Later.{Each, Where}
 use Rattle.ooo_table.specs.Legal.{CommitAllowed, AccessAllowed, ProducersDone, MemoryInOrder, Allows, StoreStands}
+use Rattle.ooo_table.specs.CycleLaws.{RowFacts, Passed}
 use Rattle.ooo_table.proofs.Order.{Changed, Now, have_stays, done_stays, below_written}
-use Rattle.ooo_table.proofs.RowFacts.{RowFacts, Passed, dispatch_same, facts_commit, facts_squash, facts_issue, facts_dispatch, facts_fresh, facts_same, facts_later, changed_commit, changed_squash, changed_issue, changed_dispatch, same_changed}
+use Rattle.ooo_table.proofs.RowFacts.{dispatch_same, facts_commit, facts_squash, facts_issue, facts_dispatch, facts_fresh, facts_same, facts_later, changed_commit, changed_squash, changed_issue, changed_dispatch, same_changed}
 use Rattle.ooo_table.proofs.Kept.{Kept, Turn, kept_at, each_of}
 
 -- a fact of a mark holds on where it holds of a new one

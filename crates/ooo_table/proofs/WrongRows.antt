@@ -1,28 +1,26 @@
 -- Wrong rows go on from the rows before them, and act on a copy of the state that the path has left.
-use Rattle.std.proofs.Common.{◌≡◌, ℕ, zero, suc, ◌+◌, ◌≤◌, Bool, true, false, cond, List, [], ◌∷◌, Option, Some, None, refl, sym, ap, ◌∙◌, subst, arith, inl, inr}
-use Rattle.std.specs.Prelude.{◌&&◌, ◌||◌, ◌==◌, not, is_none, is_some, ◌⊎◌, find, nat_le, nat_lt, length}
+use Rattle.std.proofs.Common.{◌≡◌, ℕ, zero, suc, Bool, true, false, cond, List, [], ◌∷◌, Option, Some, None, refl, sym, ap, ◌∙◌, subst, arith, inl, inr}
+use Rattle.std.specs.Prelude.{◌&&◌, ◌||◌, ◌==◌, not, is_none, is_some, ◌⊎◌, find, nat_le, length}
 use Rattle.std.specs.List.{list_any, list_all}
-use Rattle.std.proofs.lemmas.Bool.{cond_both, cond-true, cond-false, and_parts, and_left, and_right, not-true}
+use Rattle.std.proofs.lemmas.Bool.{cond_both, cond-true, cond-false, and_parts, and_left, not-true}
 use Rattle.mem_hier.specs.Replay.{Reference}
 use Rattle.bpred_unit.specs.declared.predictor.Look.{Look}
-use Rattle.sim_safe.specs.State.{State}
 use Rattle.ooo_table.specs.Row.{Row, Fetched, sweep}
 use Rattle.ooo_table.specs.Execution.{wrong_execution}
 use Rattle.ooo_table.specs.Table.{Setting, Table, NextFetch}
-use Rattle.ooo_table.specs.Path.{execution, execution_of, mispredicted, next_fetch_after, redirected}
-use Rattle.ooo_table.specs.Done.{waiting, written}
+use Rattle.ooo_table.specs.Path.{execution, execution_of, mispredicted, redirected}
+use Rattle.ooo_table.specs.Done.{waiting}
 use Rattle.ooo_table.specs.Commit.{commit, commit_row, commits}
 use Rattle.ooo_table.specs.Recovery.{recover, squash_row, recovers}
-use Rattle.ooo_table.specs.References.{store_references, predictor_events_of, references_of}
+use Rattle.ooo_table.specs.References.{store_references, predictor_events_of}
 use Rattle.ooo_table.specs.Issue.{issue, issue_row, issues, accesses, access_of}
 use Rattle.ooo_table.specs.Dispatch.{dispatch, dispatch_row, dispatches}
-use Rattle.ooo_table.specs.Fetch.{fetch_up_to, fetch_one, may_fetch, fetched_row, queue_cycle}
-use Rattle.ooo_table.specs.Cycle.{table, cycle}
+use Rattle.ooo_table.specs.Fetch.{fetch_up_to, fetch_one, may_fetch, fetched_row}
+use Rattle.ooo_table.specs.Cycle.{table}
 use Rattle.ooo_table.specs.Ends.{Extent, Whole, AtCommit, AtStop, rows_at, commit_up_to}
 use Rattle.ooo_table.specs.Later.{Each}
 use Rattle.ooo_table.specs.PathLaws.{Continues, GoesOn, copied_state, ActsOnCopy}
 use Rattle.ooo_table.proofs.Counts.{both'}
-use Rattle.ooo_table.proofs.Route.{any_same}
 
 module _ (set : Setting) where
   -- what a wrong row keeps of the row before it: that is squashed and dispatched with it

@@ -14,6 +14,7 @@ mod config;
 mod event;
 mod laws;
 mod run_laws;
+mod stage_laws;
 
 pub use commit_bound::bound;
 pub use config::OooConfig;
@@ -27,4 +28,9 @@ pub use laws::{
 pub use run_laws::{
     commits_are_the_run, commits_come_in_time, exits_end_the_run, right_rows_are_steps,
     stops_end_the_run, worked_bounds,
+};
+pub use stage_laws::{
+    issue_finds_earlier_marks, issuing_rows_are_live, recovering_rows_are_live,
+    rows_fit_the_cycles, rows_keep_their_order, squashes_spread,
+    stops_are_at_the_oldest_waiting_row, waiting_rows_are_linked, waiting_rows_are_the_newest,
 };
