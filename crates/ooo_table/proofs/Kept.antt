@@ -45,6 +45,16 @@ module _ (set : Setting) where
       let g3 : Each P three.rows = (sweep_keeps P (Changed c) (issue_row set c base two.rows) (changed_issue set c base two.rows) (k.at_issue base two.rows) two.rows g2).1 in
       (sweep_keeps P (Changed c) (dispatch_row set c) (changed_dispatch set c) k.at_dispatch three.rows g3).1
 
+  -- as far as the issue stage
+  pub kept_issue : (c : ℕ) (P : List Row → Row → Type 0) → Kept c P → (t : Table) → Each P t.rows → Each P (issue set c (recover set c (commit set c t))).rows
+  kept_issue c P k t g =
+      let one = commit set c t in
+      let two = recover set c one in
+      let g1 : Each P one.rows = (sweep_keeps P (Changed c) (commit_row set c) (changed_commit set c) k.at_commit t.rows g).1 in
+      let g2 : Each P two.rows = (sweep_keeps P (Changed c) (squash_row set c) (changed_squash set c) k.at_squash one.rows g1).1 in
+      let base = store_references set c two.rows two.references in
+      (sweep_keeps P (Changed c) (issue_row set c base two.rows) (changed_issue set c base two.rows) (k.at_issue base two.rows) two.rows g2).1
+
   kept_fetches : (n c : ℕ) (P : List Row → Row → Type 0) → Kept c P → (t : Table) → Each P t.rows → Each P (fetch_up_to set n c t).rows
   kept_fetches zero c P k t g = g
   kept_fetches (suc n) c P k t g =

@@ -30,3 +30,4 @@ pub mod Timely
 pub mod WrongRows
 pub mod Stops
 pub mod Stages
+pub mod WrongLive

@@ -126,7 +126,7 @@ module _ (set : Setting) where
     up_to_less c row =
         swept_less p p (commit_up_to set row c) (λ b r h. k.before c r (commit_up_to set row c b r) (changed_up_to set row c b r) (up_to_stays row c b r) h) (table set c).rows
 
-    marks_less : (c : ℕ) → count_by p (after_issue set c).rows ≤ count_by p (table set c).rows
+    pub marks_less : (c : ℕ) → count_by p (after_issue set c).rows ≤ count_by p (table set c).rows
     marks_less c =
         let base = store_references set c (after_recover set c).rows (after_recover set c).references in
         omega (
@@ -180,7 +180,7 @@ module _ (set : Setting) where
   finds_place : (c : ℕ) (older : List Row) (r : Row) → dispatches set c older r ≡ true → has_place set older r ≡ true
   finds_place c older r e = grind (arith, and_parts)
 
-  live_placed : Placed live set.config.ruu
+  pub live_placed : Placed live set.config.ruu
   live_placed =
       record {
         before = lived;

@@ -326,7 +326,7 @@ module _ (set : Setting) where
           record {
             follows = λ w. starts_stays c next (newest_same c rows (sweep (squash_row set c) rows) zip) (subst (λ o. Starts set o next) (sym new.0) start);
             clean = λ w. cleaned c rows m t e;
-            strays = λ w. absurd cc;
+            strays = λ w. absurd (not_both refl w);
           }
         where
           later : (c n : ℕ) (w : Option ℕ) → c < n → is_at c w ≡ true → is_before n w ≡ true

@@ -72,7 +72,7 @@ module _ (set : Setting) where
           sym (cond-true r.fetched.right (not (execution set r).stops && (not (execution set r).call || (count_by live before == 0))) (not (execution set r).call) w) ∙ m in
           (and_parts _ _ k).0
 
-  proceeds_kept : (c : ℕ) → Kept set c (λ _ r. Proceeds r)
+  pub proceeds_kept : (c : ℕ) → Kept set c (λ _ r. Proceeds r)
   proceeds_kept c =
       record {
         at_commit = λ older before r zip below p. cond_both (commits set c before r) (record r { committed = Some c }) r Proceeds (λ _. p) (λ _. p);

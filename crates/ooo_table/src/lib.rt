@@ -15,6 +15,8 @@ mod event;
 mod laws;
 mod run_laws;
 mod stage_laws;
+#[cfg(test)]
+mod tests;
 
 pub use commit_bound::bound;
 pub use config::OooConfig;
@@ -33,4 +35,5 @@ pub use stage_laws::{
     issue_finds_earlier_marks, issuing_rows_are_live, recovering_rows_are_live,
     rows_fit_the_cycles, rows_keep_their_order, squashes_spread,
     stops_are_at_the_oldest_waiting_row, waiting_rows_are_linked, waiting_rows_are_the_newest,
+    wrong_rows_leave_a_place,
 };

@@ -5,7 +5,7 @@ ghost use Rattle.ooo_table.specs.Table.{Setting};
 ghost use Rattle.ooo_table.specs.Cycle.{after_commit, after_issue};
 ghost use Rattle.ooo_table.specs.Later.{Each};
 ghost use Rattle.ooo_table.specs.Bound.{Bounded};
-ghost use Rattle.ooo_table.specs.CycleLaws.{AtStages, RowFacts, SquashSpreads, Newest, LinkedAtStages, BeforeIssue, RecoversLive, IssuesLive, RowsFit, StopsThere};
+ghost use Rattle.ooo_table.specs.CycleLaws.{AtStages, RowFacts, SquashSpreads, Newest, LinkedAtStages, BeforeIssue, RecoversLive, IssuesLive, RowsFit, StopsThere, WrongRowsFit};
 
 /// Marks come one after another, rows are dispatched in order, and commits were allowed, at each stage.
 pub fn rows_keep_their_order()
@@ -52,4 +52,9 @@ pub fn stops_are_at_the_oldest_waiting_row()
 /// There are no more rows than the decode width fetches in all cycles.
 pub fn rows_fit_the_cycles()
     ensures { (set : Setting) (c : ℕ) → RowsFit set c }
+{}
+
+/// After the issues of a cycle fewer wrong rows are live than there are places, since a right row that they follow is live.
+pub fn wrong_rows_leave_a_place()
+    ensures { (set : Setting) (I M c : ℕ) → Bounded set I M → WrongRowsFit set c }
 {}
