@@ -31,3 +31,4 @@ pub mod WrongRows
 pub mod Stops
 pub mod Stages
 pub mod WrongLive
+pub mod Shown

@@ -1,6 +1,7 @@
 -- What rows keep from stage to stage within a cycle.
 use Rattle.std.specs.Prelude.{◌≡◌, ℕ, suc, ◌*◌, ◌<◌, ◌≤◌, ◌⊎◌, not, ◌&&◌, ◌==◌, true, false, List, [], ◌∷◌, ◌++◌, length, count_by, is_some}
-use Rattle.ooo_table.specs.Row.{Row, is_before}
+use Rattle.ooo_table.specs.declared.event.Mark.TheVariants as mark
+use Rattle.ooo_table.specs.Row.{Row, is_before, accessed}
 use Rattle.ooo_table.specs.Table.{Setting, NextFetch}
 use Rattle.ooo_table.specs.Path.{execution}
 use Rattle.ooo_table.specs.Done.{live, waiting, written}
@@ -8,6 +9,7 @@ use Rattle.ooo_table.specs.Recovery.{recovers}
 use Rattle.ooo_table.specs.Issue.{issues_at}
 use Rattle.ooo_table.specs.Cycle.{table, after_commit, after_recover, after_issue, after_dispatch}
 use Rattle.ooo_table.specs.Ends.{stops_in}
+use Rattle.ooo_table.specs.Events.{event_at, by_row}
 use Rattle.ooo_table.specs.Later.{Each, Where, By}
 use Rattle.ooo_table.specs.Legal.{CommitAllowed}
 
@@ -120,3 +122,16 @@ Focus P rows = (younger : List Row) × (older : List Row) × (r : Row) × (rows 
 pub record StopsThere (set : Setting) (c : ℕ) : Type 0 where
   pub row : stops_in set c (table set c) ≡ true → Focus (StopsAt set c) (after_issue set c).rows
   pub stop : Focus (StopsAt set c) (after_issue set c).rows → stops_in set c (table set c) ≡ true
+
+-- ---- events
+
+-- The events of a cycle that a stage gives are those that its rows show right after it: no later stage adds or takes away any.
+pub record EventsStand (set : Setting) (c : ℕ) : Type 0 where
+  pub commits : by_row (λ n r. event_at c r.committed mark.Committed n) (table set (suc c)).rows
+      ≡ by_row (λ n r. event_at c r.committed mark.Committed n) (after_commit set c).rows
+  pub squashes : by_row (λ n r. event_at c r.squashed mark.Squashed n) (table set (suc c)).rows
+      ≡ by_row (λ n r. event_at c r.squashed mark.Squashed n) (after_recover set c).rows
+  pub issues : by_row (λ n r. event_at c r.issued mark.Issued n ++ event_at c (accessed r) mark.Accessed n) (table set (suc c)).rows
+      ≡ by_row (λ n r. event_at c r.issued mark.Issued n ++ event_at c (accessed r) mark.Accessed n) (after_issue set c).rows
+  pub dispatches : by_row (λ n r. event_at c r.dispatched mark.Dispatched n) (table set (suc c)).rows
+      ≡ by_row (λ n r. event_at c r.dispatched mark.Dispatched n) (after_dispatch set c).rows

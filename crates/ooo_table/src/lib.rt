@@ -32,7 +32,7 @@ pub use run_laws::{
     stops_end_the_run, worked_bounds,
 };
 pub use stage_laws::{
-    issue_finds_earlier_marks, issuing_rows_are_live, recovering_rows_are_live,
+    events_stand, issue_finds_earlier_marks, issuing_rows_are_live, recovering_rows_are_live,
     rows_fit_the_cycles, rows_keep_their_order, squashes_spread,
     stops_are_at_the_oldest_waiting_row, waiting_rows_are_linked, waiting_rows_are_the_newest,
     wrong_rows_leave_a_place,

@@ -5,7 +5,7 @@ ghost use Rattle.ooo_table.specs.Table.{Setting};
 ghost use Rattle.ooo_table.specs.Cycle.{after_commit, after_issue};
 ghost use Rattle.ooo_table.specs.Later.{Each};
 ghost use Rattle.ooo_table.specs.Bound.{Bounded};
-ghost use Rattle.ooo_table.specs.CycleLaws.{AtStages, RowFacts, SquashSpreads, Newest, LinkedAtStages, BeforeIssue, RecoversLive, IssuesLive, RowsFit, StopsThere, WrongRowsFit};
+ghost use Rattle.ooo_table.specs.CycleLaws.{AtStages, RowFacts, SquashSpreads, Newest, LinkedAtStages, BeforeIssue, RecoversLive, IssuesLive, RowsFit, StopsThere, WrongRowsFit, EventsStand};
 
 /// Marks come one after another, rows are dispatched in order, and commits were allowed, at each stage.
 pub fn rows_keep_their_order()
@@ -57,4 +57,9 @@ pub fn rows_fit_the_cycles()
 /// After the issues of a cycle fewer wrong rows are live than there are places, since a right row that they follow is live.
 pub fn wrong_rows_leave_a_place()
     ensures { (set : Setting) (I M c : ℕ) → Bounded set I M → WrongRowsFit set c }
+{}
+
+/// The events that a stage gives are those that its rows show right after it.
+pub fn events_stand()
+    ensures { (set : Setting) (c : ℕ) → EventsStand set c }
 {}
