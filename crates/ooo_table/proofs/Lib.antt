@@ -32,3 +32,4 @@ pub mod Stops
 pub mod Stages
 pub mod WrongLive
 pub mod Shown
+pub mod Finishes

@@ -88,6 +88,7 @@ module _ (set : Setting) where
   last_commit most c (r ∷ older) =
       or_else (last_commit most c older) (if is_last most c older r then Some (length older) else None)
 
-  -- how a run with a budget of commits ends in the cycle after c whole ones, if it does
+  -- How a run with a budget of commits, which is not 0, ends in the cycle after c whole ones, if it does. `specs/Finish.antt`
+  -- has the whole run.
   abbrev pub end_in : ℕ → ℕ → Option Extent
   end_in most c = or_stop (stops_in c (table set c)) (last_commit most c (commit set c (table set c)).rows)

@@ -12,6 +12,7 @@ pub mod Dispatch
 pub mod Fetch
 pub mod Cycle
 pub mod Ends
+pub mod Finish
 pub mod Later
 pub mod Legal
 pub mod PathLaws

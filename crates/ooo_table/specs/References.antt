@@ -29,10 +29,15 @@ module _ (set : Setting) where
   references_of c rows before =
       fetch_references c rows (load_references c rows (store_references c rows before))
 
-  -- the predictor events of cycle c, onto those before it: updates by the branches and jumps that commit, then the
-  -- recovery, then look-ups by the rows that are fetched
+  -- updates of the predictor, by the branches and jumps that commit
+  abbrev pub updates_of : ℕ → List Row → List Event → List Event
+  updates_of c rows before =
+      filter_map (λ r. if is_at c r.committed && (execution set r).control then Some (Update r.fetched.pc (set.instruction r.fetched.pc) (execution set r).taken (execution set r).next) else None) rows ++ before
+
+  -- the predictor events of cycle c, onto those before it: updates, then the recovery, then look-ups by the rows that are
+  -- fetched
   abbrev pub predictor_events_of : ℕ → List Row → List Event → List Event
   predictor_events_of c rows before =
       filter_map (λ r. if r.fetched.at == c then Some (LookUp r.fetched.pc (set.instruction r.fetched.pc)) else None) rows
       ++ (filter_map (λ r. if recovers set c r then Some (Recover r.fetched.top) else None) rows
-      ++ (filter_map (λ r. if is_at c r.committed && (execution set r).control then Some (Update r.fetched.pc (set.instruction r.fetched.pc) (execution set r).taken (execution set r).next) else None) rows ++ before))
+      ++ updates_of c rows before)

@@ -29,7 +29,7 @@ pub use laws::{
 };
 pub use run_laws::{
     commits_are_the_run, commits_come_in_time, exits_end_the_run, right_rows_are_steps,
-    stops_end_the_run, worked_bounds,
+    runs_end_where_they_first_can, stops_end_the_run, worked_bounds,
 };
 pub use stage_laws::{
     events_stand, issue_finds_earlier_marks, issuing_rows_are_live, recovering_rows_are_live,

@@ -6,8 +6,10 @@ ghost use Rattle.pisa_step.specs.declared.cause.Cause.TheVariants.{Exited};
 ghost use Rattle.sim_safe.specs.Step.{Halt};
 ghost use Rattle.ooo_table.specs.Cycle.{table};
 ghost use Rattle.ooo_table.specs.Ends.{Extent, AtStop, rows_at, exited, end_in};
+ghost use Rattle.ooo_table.specs.Finish.{finish, IsFirstEnd};
 ghost use Rattle.ooo_table.specs.Later.{Each};
 ghost use Rattle.ooo_table.specs.Machine.{Given, setting_of};
+ghost use Rattle.ooo_table.specs.Table.{Setting};
 ghost use Rattle.ooo_table.specs.Events.{committed_state, stop_word, end_word};
 ghost use Rattle.ooo_table.specs.RunLaws.{IsStep, IsRun, IsWhole};
 ghost use Rattle.ooo_table.specs.MachineLaws.{IsSound, IsTimely, WorkedBounds};
@@ -46,4 +48,10 @@ pub fn commits_come_in_time()
 /// K is 174 with the default hierarchy and 98 without caches and TLBs, with a penalty of 3.
 pub fn worked_bounds()
     ensures { WorkedBounds }
+{}
+
+/// A run with a budget of commits and one of cycles ends in the first cycle that has an end in it, else behind the last
+/// that it may take.
+pub fn runs_end_where_they_first_can()
+    ensures { (set : Setting) (most cycles : ℕ) → 1 ≤ most → IsFirstEnd set most cycles (finish set most cycles) }
 {}
