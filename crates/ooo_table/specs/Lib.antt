@@ -22,3 +22,6 @@ pub mod Events
 pub mod Counts
 pub mod RunLaws
 pub mod MachineLaws
+pub mod Worked
+pub mod WorkedTables
+pub mod TurnLaws
