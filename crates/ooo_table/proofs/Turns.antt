@@ -81,9 +81,9 @@ module _ (set : Setting) where
   ends_there most c younger older r e m =
       record {
         number = ap (λ l. last_commit set most c (sweep (commit_row set c) l)) e
-        ∙ stands most c (length older) younger (r ∷ older)
-        (here (last_commit set most c (sweep (commit_row set c) older)) (is_last set most c (sweep (commit_row set c) older) (commit_row set c (sweep (commit_row set c) older) r))
-        (length (sweep (commit_row set c) older)) (length older) m.before m.last (swept_length set (commit_row set c) older));
+            ∙ stands most c (length older) younger (r ∷ older)
+            (here (last_commit set most c (sweep (commit_row set c) older)) (is_last set most c (sweep (commit_row set c) older) (commit_row set c (sweep (commit_row set c) older) r))
+            (length (sweep (commit_row set c) older)) (length older) m.before m.last (swept_length set (commit_row set c) older));
         rows = ap (λ l. sweep (commit_up_to set (length older) c) l) e
-        ∙ (left (length older) c younger (r ∷ older) (omega arith) ∙ ap (λ l. younger ++ l) (same_commits set (length older) c (r ∷ older) (omega arith)));
+            ∙ (left (length older) c younger (r ∷ older) (omega arith) ∙ ap (λ l. younger ++ l) (same_commits set (length older) c (r ∷ older) (omega arith)));
       }
