@@ -228,15 +228,18 @@ module _ (set : Setting) where
       flip true h = absurd cc
       flip false h = refl
 
-  pub newest_four : (c : ℕ) → Each Newest (table set c).rows → Each Newest (after_dispatch set c).rows
-  newest_four c n =
+  pub newest_dispatch : (c : ℕ) (rows : List Row) → Each Newest rows → Each Newest (sweep (dispatch_row set c) rows)
+  newest_dispatch c rows n =
       (sweep_keeps Newest (Changed c) (dispatch_row set c) (changed_dispatch set c)
       (λ older before r zip below h. newest_turn c older before r (dispatch_row set c before r) zip (changed_dispatch set c before r) (λ w e. taken before r (dispatches set c before r) refl w e) h)
-      (after_issue set c).rows (newest_three c n)).1
+      rows n).1
     where
       taken : (before : List Row) (r : Row) (b : Bool) → dispatches set c before r ≡ b → waiting r ≡ true → waiting (dispatch_row set c before r) ≡ false → Passed before
       taken before r true e w h = all_each before (let k : list_all (λ o. not (waiting o)) before ≡ true = grind (arith, and_parts) in k)
       taken before r false e w h = let k : waiting r ≡ false = sym (ap (λ b. waiting (cond b (record r { dispatched = Some c }) r)) e) ∙ h in absurd cc
+
+  pub newest_four : (c : ℕ) → Each Newest (table set c).rows → Each Newest (after_dispatch set c).rows
+  newest_four c n = newest_dispatch c (after_issue set c).rows (newest_three c n)
 
   newest_fetches : (n c : ℕ) (t : Table) → Each Newest t.rows → Each Newest (fetch_up_to set n c t).rows
   newest_fetches zero c t h = h
@@ -299,11 +302,13 @@ module _ (set : Setting) where
       (λ _. cond_both (accesses set c start before r) (record r { access = Some (access_of set c base before r) }) r (λ s. waiting s ≡ true → waiting r ≡ true) (λ _ w. w) (λ _ w. w)))
       start (after_recover set c).next_fetch (linked_two c h)
 
-  pub linked_four : (c : ℕ) → Linked set (table set c).rows (table set c).next_fetch → Linked set (after_dispatch set c).rows (after_dispatch set c).next_fetch
-  linked_four c h =
+  pub linked_dispatch : (c : ℕ) (rows : List Row) (u : NextFetch) → Linked set rows u → Linked set (sweep (dispatch_row set c) rows) u
+  linked_dispatch c =
       linked_sweep (dispatch_row set c) (λ before r. (changed_dispatch set c before r).fetched)
       (λ before r. cond_both (dispatches set c before r) (record r { dispatched = Some c }) r (λ s. waiting s ≡ true → waiting r ≡ true) (λ _ w. absurd cc) (λ _ w. w))
-      (after_issue set c).rows (after_issue set c).next_fetch (linked_three c h)
+
+  pub linked_four : (c : ℕ) → Linked set (table set c).rows (table set c).next_fetch → Linked set (after_dispatch set c).rows (after_dispatch set c).next_fetch
+  linked_four c h = linked_dispatch c (after_issue set c).rows (after_issue set c).next_fetch (linked_three c h)
 
   -- the earliest cycle of the next fetch doesn't matter for them
   linked_next : (rows : List Row) (u v : NextFetch) → v.pc ≡ u.pc → v.right ≡ u.right → v.state ≡ u.state → Linked set rows u → Linked set rows v

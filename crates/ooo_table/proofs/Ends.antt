@@ -24,12 +24,12 @@ module _ (set : Setting) where
   later_up_to : (row c : ℕ) (older : List Row) (r : Row) → Later r (commit_up_to set row c older r)
   later_up_to row c older r = cond_both (nat_le (length older) row) (commit_row set c older r) r (Later r) (λ _. later_commit set c older r) (λ _. later_refl r)
 
-  swept_length : (f : List Row → Row → Row) (rows : List Row) → length (sweep f rows) ≡ length rows
+  pub swept_length : (f : List Row → Row → Row) (rows : List Row) → length (sweep f rows) ≡ length rows
   swept_length f [] = refl
   swept_length f (r ∷ rows) = ap (λ n. suc n) (swept_length f rows)
 
   -- a commit stage that is cut off does, up to the last row, what the whole one does
-  same_commits : (row c : ℕ) (rows : List Row) → length rows ≤ suc row → sweep (commit_up_to set row c) rows ≡ sweep (commit_row set c) rows
+  pub same_commits : (row c : ℕ) (rows : List Row) → length rows ≤ suc row → sweep (commit_up_to set row c) rows ≡ sweep (commit_row set c) rows
   same_commits row c [] le = refl
   same_commits row c (r ∷ rows) le =
       turn (sweep (commit_up_to set row c) rows) (sweep (commit_row set c) rows) (same_commits row c rows (omega (arith, le))) (omega (arith, le, swept_length (commit_up_to set row c) rows))

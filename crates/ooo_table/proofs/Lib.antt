@@ -22,7 +22,6 @@ pub mod Ends
 pub mod Quiet
 pub mod Rules
 pub mod CycleFacts
-mod Worked
 pub mod Rising
 pub mod Leads
 pub mod Run
@@ -33,3 +32,11 @@ pub mod Stages
 pub mod WrongLive
 pub mod Shown
 pub mod Finishes
+pub mod BranchWithoutWrongIssue
+pub mod CallBehindFullUnit
+pub mod FirstObjectOnNarrowMachine
+pub mod MispredictedBranch
+pub mod StoreAndLoads
+pub mod StoreAndLoadsInOrder
+pub mod WrongStoreToText
+pub mod Turns

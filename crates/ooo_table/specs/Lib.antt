@@ -23,3 +23,6 @@ pub mod Events
 pub mod Counts
 pub mod RunLaws
 pub mod MachineLaws
+pub mod Worked
+pub mod WorkedTables
+pub mod TurnLaws

@@ -17,6 +17,7 @@ mod run_laws;
 mod stage_laws;
 #[cfg(test)]
 mod tests;
+mod worked_laws;
 
 pub use commit_bound::bound;
 pub use config::OooConfig;
@@ -32,8 +33,12 @@ pub use run_laws::{
     runs_end_where_they_first_can, stops_end_the_run, worked_bounds,
 };
 pub use stage_laws::{
-    events_stand, issue_finds_earlier_marks, issuing_rows_are_live, recovering_rows_are_live,
-    rows_fit_the_cycles, rows_keep_their_order, squashes_spread,
-    stops_are_at_the_oldest_waiting_row, waiting_rows_are_linked, waiting_rows_are_the_newest,
-    wrong_rows_leave_a_place,
+    commit_turns_find_the_end, dispatch_turns_keep_links, events_stand, issue_finds_earlier_marks,
+    issuing_rows_are_live, recovering_rows_are_live, rows_fit_the_cycles, rows_keep_their_order,
+    squashes_spread, stops_are_at_the_oldest_waiting_row, waiting_rows_are_linked,
+    waiting_rows_are_the_newest, wrong_rows_leave_a_place,
+};
+pub use worked_laws::{
+    branch_without_wrong_issue, call_behind_full_unit, first_object_on_narrow_machine,
+    mispredicted_branch, store_and_loads, store_and_loads_in_order, wrong_store_to_text,
 };

@@ -1,11 +1,13 @@
 //! What rows keep from stage to stage, on which a machine that runs the table can rest, each law as the contract of a
 //! function that does nothing.
-ghost use Rattle.std.specs.Prelude.{ℕ};
+ghost use Rattle.std.specs.Prelude.{◌≡◌, ◌∷◌, ◌++◌, ℕ, List};
+ghost use Rattle.ooo_table.specs.Row.{Row};
 ghost use Rattle.ooo_table.specs.Table.{Setting};
-ghost use Rattle.ooo_table.specs.Cycle.{after_commit, after_issue};
+ghost use Rattle.ooo_table.specs.Cycle.{table, after_commit, after_issue};
 ghost use Rattle.ooo_table.specs.Later.{Each};
 ghost use Rattle.ooo_table.specs.Bound.{Bounded};
 ghost use Rattle.ooo_table.specs.CycleLaws.{AtStages, RowFacts, SquashSpreads, Newest, LinkedAtStages, BeforeIssue, RecoversLive, IssuesLive, RowsFit, StopsThere, WrongRowsFit, EventsStand};
+ghost use Rattle.ooo_table.specs.TurnLaws.{WithinDispatch, MeetsEnd, EndsThere};
 
 /// Marks come one after another, rows are dispatched in order, and commits were allowed, at each stage.
 pub fn rows_keep_their_order()
@@ -62,4 +64,15 @@ pub fn wrong_rows_leave_a_place()
 /// The events that a stage gives are those that its rows show right after it.
 pub fn events_stand()
     ensures { (set : Setting) (c : ℕ) → EventsStand set c }
+{}
+
+/// Within the dispatch stage too, after the turns of the older rows, the waiting rows are the newest ones and linked.
+pub fn dispatch_turns_keep_links()
+    ensures { (set : Setting) (c : ℕ) (younger older : List Row) → (after_issue set c).rows ≡ younger ++ older → WithinDispatch set c younger older }
+{}
+
+/// The first turn of the commit stage that meets an exit or the end of the budget is that of the last commit of the run, and
+/// the rows are then as they stand after that turn.
+pub fn commit_turns_find_the_end()
+    ensures { (set : Setting) (most c : ℕ) (younger older : List Row) (r : Row) → (table set c).rows ≡ younger ++ (r ∷ older) → MeetsEnd set most c older r → EndsThere set most c younger older r }
 {}
