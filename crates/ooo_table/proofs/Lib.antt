@@ -34,9 +34,13 @@ pub mod Shown
 pub mod Finishes
 pub mod BranchWithoutWrongIssue
 pub mod CallBehindFullUnit
+pub mod FirstObject
 pub mod FirstObjectOnNarrowMachine
 pub mod MispredictedBranch
 pub mod StoreAndLoads
 pub mod StoreAndLoadsInOrder
+pub mod TwoDivisions
+pub mod TwoLoadsAtOnce
+pub mod TwoLoadsInFlight
 pub mod WrongStoreToText
 pub mod Turns
