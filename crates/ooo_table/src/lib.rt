@@ -39,7 +39,7 @@ pub use stage_laws::{
     waiting_rows_are_the_newest, wrong_rows_leave_a_place,
 };
 pub use worked_laws::{
-    branch_without_wrong_issue, call_behind_full_unit, first_object, first_object_on_narrow_machine,
-    mispredicted_branch, store_and_loads, store_and_loads_in_order, two_divisions,
-    two_loads_at_once, two_loads_in_flight, wrong_store_to_text,
+    branch_without_wrong_issue, call_behind_full_unit, first_object,
+    first_object_on_narrow_machine, mispredicted_branch, store_and_loads, store_and_loads_in_order,
+    two_divisions, two_loads_at_once, two_loads_in_flight, wrong_store_to_text,
 };
