@@ -10,7 +10,9 @@
 
 #define O_RDONLY 0
 
-extern int errno; /* the error of the last call that answered -1 */
+/* The error of the last call that answered -1, and what it may be. */
+extern int errno;
+enum { ENOENT = 2, EBADF = 9, ENOMEM = 12, EACCES = 13, EFAULT = 14, EINVAL = 22, EMFILE = 24 };
 
 void exit(int code) __attribute__((noreturn));
 int read(int descriptor, void *bytes, size_t length);
@@ -22,7 +24,6 @@ void *sbrk(int size);
 
 #else
 
-#define _DEFAULT_SOURCE
 #include <errno.h>
 #include <fcntl.h>
 #include <stddef.h>
