@@ -73,9 +73,9 @@ module _ (c : HierConfig) (p : PredConfig) (text : Text) (cycle : ℕ) where
   unfolding next_row
   next_lookup s = refl
 
-  -- fetching went on behind the row, where another may be fetched in the same cycle
-  row_went_on : (s : Stage) → may_fetch cycle (with_row (next_row c p text cycle s) s.front) ≡ true → goes_on (next_row c p text cycle s) ≡ true
-  row_went_on s may = by_test (goes_on (next_row c p text cycle s)) refl
+  -- fetching goes on behind the row, where another may be fetched in the same cycle
+  row_goes_on : (s : Stage) → may_fetch cycle (with_row (next_row c p text cycle s) s.front) ≡ true → goes_on (next_row c p text cycle s) ≡ true
+  row_goes_on s may = by_test (goes_on (next_row c p text cycle s)) refl
     where
       r : FetchRow
       r = next_row c p text cycle s
@@ -93,7 +93,7 @@ module _ (c : HierConfig) (p : PredConfig) (text : Text) (cycle : ℕ) where
   behind : (s : Stage) (fresh : List FetchRow) → (may_fetch cycle (fetch_one c p text cycle s).front ≡ false → fresh ≡ []) → All (λ r. goes_on r ≡ true) (drop 1 fresh)
       → All (λ r. goes_on r ≡ true) (drop 1 (fresh ++ next_row c p text cycle s ∷ []))
   behind s [] none on = All-nil (λ r. goes_on r ≡ true)
-  behind s (x ∷ fresh) none on = All-push (λ r. goes_on r ≡ true) fresh (next_row c p text cycle s) on (row_went_on s (by_test (may_fetch cycle (fetch_one c p text cycle s).front) refl))
+  behind s (x ∷ fresh) none on = All-push (λ r. goes_on r ≡ true) fresh (next_row c p text cycle s) on (row_goes_on s (by_test (may_fetch cycle (fetch_one c p text cycle s).front) refl))
     where
       by_test : (b : Bool) → may_fetch cycle (fetch_one c p text cycle s).front ≡ b → b ≡ true
       by_test true e = refl
