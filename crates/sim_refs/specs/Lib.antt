@@ -1,0 +1,4 @@
+pub mod References
+pub mod CacheRuns
+pub mod Predictions
+pub mod PredRuns
