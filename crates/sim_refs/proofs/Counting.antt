@@ -1,7 +1,7 @@
 -- Counts of predictions: how great they are, and that they may stand still at each step or at the end.
-use Rattle.std.specs.Prelude.{◌≡◌, ℕ, ◌+◌, ◌-◌, ◌^◌, ◌<◌, ◌≤◌, Bool, true, false, List, [], ◌∷◌, length, min, ◌==◌, if◌then◌else◌}
-use Rattle.std.proofs.Common.{refl, ap, arith, ◌∙◌}
-use Rattle.std.proofs.Math.Nat.{min-eq_left, min-eq_right}
+use Rattle.std.specs.Prelude.{◌≡◌, ℕ, ◌+◌, ◌-◌, ◌^◌, ◌<◌, ◌≤◌, Bool, true, false, List, [], ◌∷◌, length, min, ◌==◌}
+use Rattle.std.proofs.Common.{refl, arith}
+use Rattle.std.proofs.Math.Nat.{min-eq_left}
 use Rattle.pisa_isa.specs.declared.classes.ControlKind.{ControlKind}
 use Rattle.pisa_isa.specs.declared.classes.ControlKind.TheVariants as control
 use Rattle.pisa_isa.specs.Classes.{control_of}
@@ -10,7 +10,7 @@ use Rattle.sim_safe.specs.Statistics.{branch_count}
 use Rattle.bpred_unit.specs.declared.config.PredConfig.{PredConfig}
 use Rattle.bpred_unit.specs.declared.predictor.Look.{Look}
 use Rattle.sim_refs.specs.declared.pred_run.PredCounts.{PredCounts}
-use Rattle.sim_refs.specs.Predictions.{cond_count, same_way, where_so, no_counts, counted, look_at, counts_of, at_most}
+use Rattle.sim_refs.specs.Predictions.{cond_count, same_way, where_so, counted, look_at, counts_of, at_most}
 
 -- ---- one instruction counts once at most
 

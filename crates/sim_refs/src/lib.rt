@@ -10,9 +10,17 @@
 #![tactic(auto)]
 
 mod cache_run;
+mod laws;
 mod pred_run;
+mod statistics;
 #[cfg(test)]
 mod tests;
 
 pub use cache_run::CacheRun;
+pub use laws::{
+    first_caches_count_instructions, other_instructions_ask_nothing, other_look_ups_change_nothing,
+    parts_join, predictions_are_right_or_wrong, references_are_in_order,
+    references_are_of_instructions,
+};
 pub use pred_run::{PredCounts, PredRun};
+pub use statistics::push_caches;
