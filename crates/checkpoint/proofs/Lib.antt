@@ -1,0 +1,10 @@
+pub mod Counts
+pub mod Written
+pub mod Checks
+pub mod Words
+pub mod Pages
+pub mod Heads
+pub mod HeadsAgain
+pub mod WholePoint
+pub mod Places
+pub mod Loop

@@ -1,0 +1,6 @@
+use Rattle.std.proofs.Common.{◌≡◌, drop}
+use Rattle.checkpoint.specs.Reading.{is_zero}
+use Rattle.checkpoint.proofs.reading.is_zero.Given as goal
+
+abbrev pub invariant-loop-byte : goal.invariant-loop-byte
+invariant-loop-byte l = is_zero (drop l.byte-index l.bytes) ≡ is_zero l.bytes

@@ -1,0 +1,3 @@
+pub mod State
+pub mod Grammar
+pub mod Reading
