@@ -1,7 +1,7 @@
 ghost use Rattle.std.specs.Prelude.{◌≡◌, ◌≤◌};
 ghost use Rattle.bpred_unit.specs.Limits.{IsAllowed};
 
-use crate::{CacheRun, PredCounts, PredRun};
+use crate::{CacheRun, PredCounts, PredRun, push_caches};
 use arrayvec::ArrayVec;
 use bpred_unit::{PredConfig, PredKind};
 use cache_core::{CacheConfig, Counts};
@@ -511,6 +511,94 @@ fn others_agree(alloc: Global) -> Result<bool, OutOfMemory> {
 #[test]
 fn branches_calls_and_returns_are_counted(rt: HostRuntime) -> Result<(), Fail> {
     let agree = others_agree(rt.alloc())?;
+    assert!(rt; agree);
+    Ok(())
+}
+
+// ---- lines
+
+/// The lines of the first row, in which each cache and TLB is there, and those of the third, in which two are.
+const ALL_LINES: &[u8] = b"il1.accesses 5
+il1.hits 3
+il1.misses 2
+il1.replacements 1
+il1.writebacks 0
+dl1.accesses 3
+dl1.hits 0
+dl1.misses 3
+dl1.replacements 2
+dl1.writebacks 1
+il2.accesses 2
+il2.hits 1
+il2.misses 1
+il2.replacements 0
+il2.writebacks 0
+dl2.accesses 4
+dl2.hits 3
+dl2.misses 1
+dl2.replacements 0
+dl2.writebacks 0
+itlb.accesses 5
+itlb.hits 4
+itlb.misses 1
+itlb.replacements 0
+itlb.writebacks 0
+dtlb.accesses 3
+dtlb.hits 2
+dtlb.misses 1
+dtlb.replacements 0
+dtlb.writebacks 0
+";
+
+const TWO_LINES: &[u8] = b"dl1.accesses 8
+dl1.hits 1
+dl1.misses 7
+dl1.replacements 6
+dl1.writebacks 1
+dtlb.accesses 3
+dtlb.hits 2
+dtlb.misses 1
+dtlb.replacements 0
+dtlb.writebacks 0
+";
+
+/// The lines of the loop of three turns.
+const LOOP_LINES: &[u8] = b"bpred.control 3
+bpred.cond 3
+bpred.taken 2
+bpred.dir_hits 1
+bpred.addr_hits 1
+";
+
+/// Whether the lines of a row's run are these.
+fn has_lines(alloc: Global, row: &Row, lines: &[u8]) -> Result<bool, OutOfMemory> {
+    let config = hierarchy(row.levels, row.tlbs);
+    if !config.is_allowed() {
+        return Ok(false);
+    }
+    let mut run = CacheRun::new(alloc, &config)?;
+    for d in &row.did {
+        run.feed(&record(*d));
+    }
+    let mut text = Vec::new(alloc);
+    push_caches(run.hier(), &mut text)?;
+    Ok(text.as_slice() == lines)
+}
+
+/// Whether the lines of caches and of predictions stand in their order.
+fn lines_agree(alloc: Global) -> Result<bool, OutOfMemory> {
+    let defaults = predictor(PredKind::Bimod, 1024, 8, 8);
+    let counts = counts_after(alloc, &defaults, &TEN, 1)?;
+    let mut text = Vec::new(alloc);
+    counts.push(&mut text)?;
+    let predictions = text.as_slice() == LOOP_LINES;
+    let caches = has_lines(alloc, &ROWS[0], ALL_LINES)? && has_lines(alloc, &ROWS[2], TWO_LINES)?;
+    Ok(predictions && caches)
+}
+
+#[test]
+fn lines_stand_in_their_order(rt: HostRuntime) -> Result<(), Fail> {
+    let agree = lines_agree(rt.alloc())?;
     assert!(rt; agree);
     Ok(())
 }
