@@ -116,3 +116,10 @@ IsRefusal checks (faults.Bad at reason) = checks ≡ Err (faults.Bad at reason)
 -- each byte of a text stands at its place in memory
 abbrev pub HoldsText : (ℕ → ℕ) → Text → Type 0
 HoldsText memory text = (k : ℕ) → k < length text.bytes → memory (text.start + k) ≡ slice_index text.bytes k
+
+-- a point is one of a program with this text: byte order, where the text lies, and its bytes
+pub record Fits (p : PointState) (text : Text) : Type 0 where
+  pub order : p.head.big ≡ text.big
+  pub start : p.head.text_start ≡ text.start
+  pub size : p.head.text_length ≡ length text.bytes
+  pub content : HoldsText (byte_of p.pages) text

@@ -19,6 +19,6 @@ mod writing;
 pub use fault::{PointFault, PointWhy};
 pub use point::{Point, page_count};
 pub use reading::{one_point, read};
-pub use restoring::{Restored, taken_points_fit, unpack};
+pub use restoring::{Restored, checks_are_exact, taken_points_fit, unpack};
 pub use taking::take;
 pub use writing::write;

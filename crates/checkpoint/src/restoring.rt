@@ -1,17 +1,18 @@
 //! Going on from a point: whether it belongs to an object, and what the machine then holds.
-ghost use Rattle.std.specs.Prelude.{◌≡◌, ◌+◌, ◌*◌, ◌^◌, ◌<◌, ◌≤◌, ℕ, length, IfOk, IfErr, OnOk, Ok};
+ghost use Rattle.std.specs.Prelude.{◌≡◌, ◌+◌, ◌*◌, ◌^◌, ◌<◌, ◌≤◌, ◌↔◌, ℕ, length, IfOk, IfErr, OnOk, Ok};
+ghost use Rattle.ecoff_load.specs.declared.image.Text.{Text};
 ghost use Rattle.ecoff_load.specs.Object.{IsText, IsImage};
 ghost use Rattle.paged_mem.specs.Memory.{byte_of, overlaid};
 ghost use Rattle.checkpoint.specs.Grammar.{ArePages};
 ghost use Rattle.sim_safe.specs.State.{Storage, state_of};
 ghost use Rattle.checkpoint.specs.State.{PointState};
-ghost use Rattle.checkpoint.specs.Held.{IsPointOf, stands, order_place, head_fit, text_fit, fit, state_held, storage_held, IsRefusal, HoldsText};
+ghost use Rattle.checkpoint.specs.Held.{IsPointOf, stands, order_place, head_fit, text_fit, fit, state_held, storage_held, IsRefusal, HoldsText, Fits};
 ghost use Rattle.checkpoint.specs.Restored.{storage_of};
 
 use crate::fault::{PointFault, PointWhy};
 use crate::point::{Head, Page, Point};
 use ecoff_load::{Image, Text};
-use paged_mem::PagedMem;
+use paged_mem::{PAGE_SIZE, PagedMem};
 use ss_base::OutOfMemory;
 use std::alloc::Global;
 
@@ -84,7 +85,7 @@ fn put_page(mem: &mut PagedMem, page: &Page) -> Result<(), OutOfMemory>
     ensures { OnOk result (byte_of mem.new ≡ overlaid (byte_of mem.old) (4096 * page.now.0) page.now.1) }
 {
     let bytes = page.bytes.as_slice();
-    let addr = 4096 * page.number;
+    let addr = PAGE_SIZE * page.number;
     mem.reserve(addr, bytes.len() as u32)?;
     mem.write(addr, bytes);
     Ok(())
@@ -169,6 +170,11 @@ pub fn unpack(alloc: Global, p: Point, image: Image) -> Result<Restored, PointFa
         Err(fault) => Err(fault),
     }
 }
+
+/// No check of a point with an object fails exactly where the point has the object's byte order and text.
+pub fn checks_are_exact()
+    ensures { (p : PointState) (text : Text) → (fit p text ≡ Ok tt) ↔ Fits p text }
+{}
 
 /// A point that was taken of a machine belongs to each object with the machine's text, where the bytes
 /// of the text stand in the machine's memory.
