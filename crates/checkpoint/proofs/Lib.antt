@@ -8,3 +8,5 @@ pub mod HeadsAgain
 pub mod WholePoint
 pub mod Places
 pub mod Loop
+pub mod Memory
+pub mod Fitting

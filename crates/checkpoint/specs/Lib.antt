@@ -1,3 +1,5 @@
 pub mod State
 pub mod Grammar
 pub mod Reading
+pub mod Held
+pub mod Restored

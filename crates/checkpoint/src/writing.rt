@@ -94,7 +94,7 @@ pub fn write(alloc: Global, p: &Point) -> Result<Vec<u8>, OutOfMemory>
     ensures bytes { IfOk result (λ bytes. bytes.items ≡ point_bytes p.now) }
 {
     let pages = p.pages.as_slice();
-    let mut bytes = Vec::new(alloc);
+    let mut bytes = Vec::with_capacity(alloc, 184 + 4100 * pages.len())?;
     put_head(&mut bytes, &p.head, pages.len() as u32)?;
     put_pages(&mut bytes, pages)?;
     Ok(bytes)
