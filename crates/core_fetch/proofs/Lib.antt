@@ -1,0 +1,4 @@
+mod Row
+mod Turns
+mod Close
+mod Whole
