@@ -5,6 +5,8 @@
 #![tactic(auto)]
 
 mod printing;
+#[cfg(test)]
+mod tests;
 
 pub use ooo_table::{EndWord, Event, Events, Log, Mark, OooConfig};
 pub use printing::{event_text, print};
