@@ -4,10 +4,10 @@ use pisa_step::{Cause, Field};
 use std::alloc::Global;
 
 /// An event: its cycle, its row and its mark.
-type Act = (u64, u64, Mark);
+pub type Act = (u64, u64, Mark);
 
 /// What happened to the three instructions that set register 2 to 1, register 4 to 7, and exit.
-const FIRST: [Act; 19] = [
+pub const FIRST: [Act; 19] = [
     (
         0,
         0,
@@ -85,7 +85,7 @@ const FIRST: [Act; 19] = [
     (45, 2, Mark::Committed),
 ];
 
-const FIRST_TEXT: &[u8] = b"\
+pub const FIRST_TEXT: &[u8] = b"\
 @ 0\n+ 0 00400000 00400008 38\n\
 @ 38\n+ 1 00400008 00400010 38\n+ 2 00400010 00400018 38\n+ 3 00400018 00400020 38\n\
 @ 39\nD 0\nD 1\n+ 4 00400020 00400028 39\n+ 5 00400028 00400030 39\n\
@@ -156,13 +156,29 @@ fn are_told(alloc: Global, log: &Log, text: &[u8]) -> bool {
         }
         last = Some(e.cycle);
     }
-    text.starts_with(told.as_slice()) & text[told.len()..].starts_with(b".")
+    match text.strip_prefix(told.as_slice()) {
+        Some(rest) => rest.starts_with(b". "),
+        None => false,
+    }
 }
 
-/// Whether these acts have this text.
+/// Whether a text is read as this log.
+fn is_read(alloc: Global, log: &Log, text: &[u8]) -> bool {
+    match read(alloc, text) {
+        Ok(found) => {
+            let same = found.events.as_slice() == log.events.as_slice();
+            same & (found.cycles == log.cycles) & (found.end == log.end)
+        }
+        Err(_) => false,
+    }
+}
+
+/// Whether these acts have this text, and it them.
 fn has_text(alloc: Global, acts: &[Act], cycles: u64, end: EndWord, text: &[u8]) -> bool {
     match log_of(alloc, acts, cycles, end) {
-        Ok(log) => is_printed(alloc, &log, text) & are_told(alloc, &log, text),
+        Ok(log) => {
+            is_printed(alloc, &log, text) & are_told(alloc, &log, text) & is_read(alloc, &log, text)
+        }
         Err(_) => false,
     }
 }
@@ -267,4 +283,77 @@ fn stops_are_told(alloc: Global) -> bool {
 #[test]
 fn stops_have_their_words(rt: HostRuntime) {
     assert!(rt; stops_are_told(rt.alloc()));
+}
+
+/// Bytes that are no text, and their first bad line.
+type Refusal<'a> = (&'a [u8], u64);
+
+const REFUSALS: [Refusal<'static>; 41] = [
+    // a text that ends too early
+    (b"", 1),
+    (b". 0 budget", 1),
+    (b"@ 0\nD 0\n", 3),
+    (b"@ 0\nD 0\n. 1 budget", 3),
+    // cycles
+    (b"@ 0\n. 1 budget\n", 2),
+    (b"@ 0\n@ 1\nD 0\n. 2 budget\n", 2),
+    (b"D 0\n. 1 budget\n", 1),
+    (b"@ 1\nD 0\n@ 1\nD 1\n. 2 budget\n", 3),
+    (b"@ 1\nD 0\n@ 0\nD 1\n. 2 budget\n", 3),
+    (b"@ 1\nD 0\n. 1 budget\n", 3),
+    (b"@ 00\nD 0\n. 1 budget\n", 1),
+    (b"@ +0\nD 0\n. 1 budget\n", 1),
+    (b"@ 4611686018427387904\nD 0\n. 1 budget\n", 1),
+    (b"@ 18446744073709551616\nD 0\n. 1 budget\n", 1),
+    (b"@ \nD 0\n. 1 budget\n", 1),
+    // events
+    (b"@ 0\nD 1\nD 0\n. 1 budget\n", 3),
+    (b"@ 0\nD 0\nD 0\n. 1 budget\n", 3),
+    (b"@ 0\nD 0\nI 1\n. 1 budget\n", 3),
+    (b"@ 0\nR 1\nW 1\n. 1 budget\n", 3),
+    (b"@ 0\nX 1\nC 2\n. 1 budget\n", 3),
+    (b"@ 0\nd 0\n. 1 budget\n", 2),
+    (b"@ 0\nD  0\n. 1 budget\n", 2),
+    (b"@ 0\nD 0 \n. 1 budget\n", 2),
+    (b"@ 0\nD 0\r\n. 1 budget\n", 2),
+    (b"@ 0\nD -1\n. 1 budget\n", 2),
+    (b"@ 0\nD 4611686018427387904\n. 1 budget\n", 2),
+    (b"@ 0\n+ 0 0040000 00400008 1\n. 1 budget\n", 2),
+    (b"@ 0\n+ 0 00400000 0040000A 1\n. 1 budget\n", 2),
+    (b"@ 0\n+ 0 00400000 00400008\n. 1 budget\n", 2),
+    // the end
+    (b". 0 budget\n\n", 2),
+    (b". 0 budget\n. 0 budget\n", 2),
+    (b". 0 budget\n@", 2),
+    (b". 0 exited 4294967296\n", 1),
+    (b". 0 stopped 00400000 0 exited 7\n", 1),
+    (b". 0 stopped 00400000 0 floating-point 00010000\n", 1),
+    (b". 0 stopped 00400000 0 trace-end 4294967296\n", 1),
+    (b". 0 stopped 00400000 4611686018427387904 break\n", 1),
+    (b". 0 stopped 00400000 0 trace-mismatch r256 0 1\n", 1),
+    (b". 0 stopped 00400000 0 trace-mismatch [400000] 0 1\n", 1),
+    (
+        b". 0 stopped 00400000 0 trace-mismatch pc 0 4611686018427387904\n",
+        1,
+    ),
+    (b". 0 stopped 00400000 0\n", 1),
+];
+
+/// Whether all these are refused, each at its line.
+fn are_refused(alloc: Global, refusals: &[Refusal<'_>]) -> bool {
+    let mut all = true;
+    for refusal in refusals {
+        let (text, line) = *refusal;
+        let refused = match read(alloc, text) {
+            Ok(_) => false,
+            Err(fault) => fault == PipeFault::Bad { line },
+        };
+        all = all & refused;
+    }
+    all
+}
+
+#[test]
+fn bad_lines_are_found(rt: HostRuntime) {
+    assert!(rt; are_refused(rt.alloc(), &REFUSALS));
 }
