@@ -134,7 +134,7 @@ fn push_word(into: &mut Vec<u8>, end: &EndWord) -> Result<(), OutOfMemory>
 
 /// Adds the line of the end, or a front of it.
 #[tactic(auto, using(ss_base::specs::Begins::begins_front))]
-fn push_end_line(into: &mut Vec<u8>, cycles: u64, end: &EndWord) -> Result<(), OutOfMemory>
+pub fn push_end_line(into: &mut Vec<u8>, cycles: u64, end: &EndWord) -> Result<(), OutOfMemory>
     ensures ok { OnOk result (into.new.items ≡ into.old.items ++ end_line cycles end.now) }
     ensures err { OnErr result (BeginsWith into.new.items into.old.items) }
 {
