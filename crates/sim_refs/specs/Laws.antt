@@ -5,7 +5,9 @@ use Rattle.pisa_isa.specs.declared.instr.Instr.{Instr}
 use Rattle.pisa_isa.specs.declared.classes.AccessKind.TheVariants as access
 use Rattle.pisa_isa.specs.Classes.{access_of, control_of}
 use Rattle.sim_safe.specs.declared.record.CommitRecord.{CommitRecord}
-use Rattle.sim_safe.specs.Statistics.{load_count, store_count, branch_count}
+use Rattle.sim_safe.specs.Record.{Item}
+use Rattle.sim_safe.specs.Step.{Outcome, Next, Halt}
+use Rattle.sim_safe.specs.Statistics.{load_count, store_count, branch_count, statistics_back}
 use Rattle.cache_core.specs.declared.answers.Counts.{Counts}
 use Rattle.mem_hier.specs.declared.config.HierConfig.{HierConfig}
 use Rattle.mem_hier.specs.declared.config.Which.TheVariants.{Il1, Dl1, Itlb, Dtlb}
@@ -43,6 +45,16 @@ stores_in (SettleAll ∷ h) = stores_in h
 -- a load or store has an effective address
 abbrev pub HasAddress : CommitRecord → Type 0
 HasAddress r = access_of r.instr.op ≢ access.Nothing → IsSome r.access
+
+-- a step that does an instruction gives such a record
+abbrev pub StepHasAddress : Outcome → Type 0
+StepHasAddress (Next r after) = HasAddress r
+StepHasAddress (Halt why) = Unit {0}
+
+-- the records of what was done in a run, the newest first as there
+abbrev pub records_of : List Item → List CommitRecord
+records_of [] = []
+records_of (i ∷ h) = i.did ∷ records_of h
 
 -- the loads and the stores among these instructions
 abbrev pub loads_of : List CommitRecord → ℕ
@@ -136,3 +148,12 @@ all_events_of (r ∷ h) = Update r.pc r.instr r.taken r.next ∷ (LookUp r.pc r.
 -- it makes no difference to any answer
 abbrev pub AnswersAlike : PredConfig → List CommitRecord → ℕ → Instr → Type 0
 AnswersAlike c h pc i = look_of c (all_events_of h) pc i ≡ look_of c (events_of h) pc i
+
+-- ---- statistics
+
+-- what is counted of references and of predictions agrees with the statistics of the run
+pub record AgreesWithStatistics (c : PredConfig) (h : List Item) : Type 0 where
+  pub insn : length (records_of h) ≡ (statistics_back h).insn
+  pub loads : loads_of (records_of h) ≡ (statistics_back h).loads
+  pub stores : stores_of (records_of h) ≡ (statistics_back h).stores
+  pub branches : (counts_of c (records_of h)).control ≡ (statistics_back h).branches

@@ -1,12 +1,17 @@
 //! What follows from the definitions, each law as the contract of a function that does nothing.
-ghost use Rattle.std.specs.Prelude.{◌≡◌, ℕ, List, All};
+ghost use Rattle.std.specs.Prelude.{◌≡◌, ℕ, List, [], All};
 ghost use Rattle.pisa_isa.specs.declared.instr.Instr.{Instr};
 ghost use Rattle.pisa_isa.specs.declared.classes.ControlKind.TheVariants as control;
 ghost use Rattle.pisa_isa.specs.Classes.{control_of};
+ghost use Rattle.event_trace.specs.declared.trace.Trace.{Trace};
 ghost use Rattle.sim_safe.specs.declared.record.CommitRecord.{CommitRecord};
+ghost use Rattle.sim_safe.specs.State.{State};
+ghost use Rattle.sim_safe.specs.Record.{Item};
+ghost use Rattle.sim_safe.specs.Commit.{onto};
+ghost use Rattle.sim_safe.specs.Run.{items_of};
 ghost use Rattle.mem_hier.specs.declared.config.HierConfig.{HierConfig};
 ghost use Rattle.bpred_unit.specs.declared.config.PredConfig.{PredConfig};
-ghost use Rattle.sim_refs.specs.Laws.{HasAddress, RefersOnce, RefersInOrder, FrontsCount, RightOrWrong, Joins, AsksNothing, AnswersAlike};
+ghost use Rattle.sim_refs.specs.Laws.{HasAddress, records_of, AgreesWithStatistics, RefersOnce, RefersInOrder, FrontsCount, RightOrWrong, Joins, AsksNothing, AnswersAlike};
 
 /// There are as many fetches as instructions, and as many loads and stores as there are among them.
 pub fn references_are_of_instructions()
@@ -43,4 +48,14 @@ pub fn other_instructions_ask_nothing()
 /// To look up and tell every other instruction too would change no answer.
 pub fn other_look_ups_change_nothing()
     ensures { (c : PredConfig) (h : List CommitRecord) (pc : ℕ) (i : Instr) → AnswersAlike c h pc i }
+{}
+
+/// In every run each load and store that is done has an effective address, so that it makes its reference.
+pub fn runs_have_addresses()
+    ensures { (trace : Trace) (n : ℕ) (s : State) → All HasAddress (records_of (onto (items_of trace n s) [])) }
+{}
+
+/// The instructions, loads, stores and branches of the statistics are those that are counted here.
+pub fn counts_agree_with_statistics()
+    ensures { (c : PredConfig) (h : List Item) → AgreesWithStatistics c h }
 {}

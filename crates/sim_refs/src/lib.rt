@@ -18,9 +18,9 @@ mod tests;
 
 pub use cache_run::CacheRun;
 pub use laws::{
-    first_caches_count_instructions, other_instructions_ask_nothing, other_look_ups_change_nothing,
-    parts_join, predictions_are_right_or_wrong, references_are_in_order,
-    references_are_of_instructions,
+    counts_agree_with_statistics, first_caches_count_instructions, other_instructions_ask_nothing,
+    other_look_ups_change_nothing, parts_join, predictions_are_right_or_wrong,
+    references_are_in_order, references_are_of_instructions, runs_have_addresses,
 };
 pub use pred_run::{PredCounts, PredRun};
 pub use statistics::push_caches;
