@@ -10,6 +10,7 @@ use Rattle.ooo_front.specs.declared.row.FetchRow.{FetchRow}
 use Rattle.ooo_table.specs.Row.{Row, is_at, accessed, not_forwarded, sweep}
 use Rattle.ooo_table.specs.Table.{Table}
 use Rattle.ooo_table.specs.Path.{execution}
+use Rattle.ooo_table.specs.Done.{live, waiting}
 use Rattle.ooo_table.specs.Commit.{commits, commit_row}
 use Rattle.ooo_table.specs.Recovery.{recovers}
 use Rattle.ooo_table.specs.Dispatch.{dispatches, dispatch_row}
@@ -32,11 +33,13 @@ module _ (g : Given) (c : ℕ) where
   abbrev pub committed_up_to : List Row → List Row → Table
   committed_up_to younger older = record (table (setting_of g) c) { rows = younger ++ sweep (commit_row (setting_of g) c) older }
 
-  -- Within the commit stage the older rows had their turns, of which so many commits came.
+  -- Within the commit stage the older rows had their turns, in which so many rows committed. None of them is live any more: the
+  -- next turn is that of the oldest live row.
   pub record Committing (n : ℕ) (younger older : List Row) (parts : Parts) : Type 0 where
     pub rows : (table (setting_of g) c).rows ≡ younger ++ older
     pub stands : Stands g c false parts (committed_up_to younger older)
     pub count : count_by (λ o. is_at c o.committed) (sweep (commit_row (setting_of g) c) older) ≡ n
+    pub passed : pick live (sweep (commit_row (setting_of g) c) older) ≡ []
 
   -- the row r commits, behind these rows as they were before the stage, and the station is of it
   pub record CommitsAs (s : Station) (r : Row) (older : List Row) : Type 0 where
@@ -99,12 +102,14 @@ module _ (g : Given) (c : ℕ) where
   dispatched_up_to younger older =
       record (after_issue (setting_of g) c) { rows = younger ++ sweep (dispatch_row (setting_of g) c) older }
 
-  -- Within the dispatch stage the older rows had their turns, in which so many rows were dispatched; a call among them or none.
+  -- Within the dispatch stage the older rows had their turns, in which so many rows were dispatched, a call among them or none.
+  -- None of them waits any more: the next turn is that of the oldest waiting row.
   pub record Dispatching (n : ℕ) (called : Bool) (younger older : List Row) (parts : Parts) : Type 0 where
     pub rows : (after_issue (setting_of g) c).rows ≡ younger ++ older
     pub stands : Stands g c true parts (dispatched_up_to younger older)
     pub count : count_by (λ o. is_at c o.dispatched) (sweep (dispatch_row (setting_of g) c) older) ≡ n
     pub call : list_any (λ o. is_at c o.dispatched && (execution (setting_of g) o).call) (sweep (dispatch_row (setting_of g) c) older) ≡ called
+    pub passed : pick waiting (sweep (dispatch_row (setting_of g) c) older) ≡ []
 
   -- the row r with this number is dispatched, behind these rows as they were before the stage; it is a call or none
   pub record DispatchesAs (named : ℕ) (is_call : Bool) (r : Row) (older : List Row) : Type 0 where
