@@ -4,3 +4,8 @@ pub mod Taken
 pub mod Shapes
 pub mod Recordings
 pub mod Requests
+pub mod Lists
+pub mod Judged
+pub mod Walking
+pub mod Grammar
+pub mod Saying

@@ -2,3 +2,9 @@ pub mod Word
 pub mod Request
 pub mod Reading
 pub mod Borrowed
+pub mod Table
+pub mod Values
+pub mod Settings
+pub mod Words
+pub mod Kept
+pub mod Options

@@ -39,6 +39,15 @@ number_of text =
     if nat_le (digits_value 10 text) (10 ^ 12) then Some (digits_value 10 text) else None
     else None
 
+-- the number that a word writes
+abbrev pub digits_of : List ℕ → Option ℕ
+digits_of text = if is_number text then Some (digits_value 10 text) else None
+
+-- whether a word begins with '-'
+abbrev pub begins_with_dash : List ℕ → Bool
+begins_with_dash [] = false
+begins_with_dash (b ∷ bs) = nat_eq b 45
+
 -- how many bytes the start block of the arguments has
 abbrev pub start_block_length : List (List ℕ) → ℕ
 start_block_length args = words_length args + length (ended_strings args)

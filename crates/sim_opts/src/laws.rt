@@ -1,9 +1,11 @@
 //! What follows from the definitions, each law as the contract of a function that does nothing.
-ghost use Rattle.std.specs.Prelude.{◌≡◌, ℕ, ◌^◌, ◌≤◌, Bool, List, length, decimal, Some, ◌↔◌};
+ghost use Rattle.std.specs.Prelude.{◌≡◌, ℕ, ◌^◌, ◌≤◌, Bool, List, length, decimal, Some, Ok, Err, ◌↔◌, ◌⊎◌};
 ghost use Rattle.ecoff_load.specs.Start.{block};
 ghost use Rattle.sim_opts.specs.Word.{number_of, start_block_length};
 ghost use Rattle.sim_opts.specs.Request.{Request, HasShape};
 ghost use Rattle.sim_opts.specs.Reading.{request_of};
+ghost use Rattle.sim_opts.specs.Words.{Asks, Ask, IsFirstWrong, read};
+ghost use Rattle.sim_opts.specs.declared.words.Wrong.{Wrong};
 
 /// Words are read as a request exactly where they have its shape.
 #[tactic(auto, using(crate::proofs::Requests::shape_iff_read))]
@@ -31,4 +33,29 @@ pub fn numbers_have_one_word()
 #[tactic(auto, using(crate::proofs::Starts::block_has_length))]
 pub fn start_blocks_have_their_length()
     ensures { (big : Bool) (args : List (List ℕ)) → length (block big args) ≡ start_block_length args }
+{}
+
+/// Words are read as asking for something exactly where the grammar says that they do.
+pub fn words_are_read_by_the_grammar()
+    ensures { (words : List (List ℕ)) (a : Asks) → Ask words a ↔ (read words ≡ Ok a) }
+{}
+
+/// Words are refused at a place for a reason exactly where the grammar says that this is the first
+/// wrong place and its reason.
+#[tactic(auto, using(crate::proofs::Grammar::wrong_iff_read))]
+pub fn words_are_refused_at_the_first_wrong_place()
+    ensures { (words : List (List ℕ)) (w : Wrong) → IsFirstWrong words w ↔ (read words ≡ Err w) }
+{}
+
+/// Words ask for one thing at most.
+#[tactic(auto, using(crate::proofs::Grammar::asks_once))]
+pub fn words_ask_for_one_thing_at_most()
+    ensures { (words : List (List ℕ)) (first second : Asks) → Ask words first → Ask words second → first ≡ second }
+{}
+
+/// Words ask for something or are wrong somewhere, and never both.
+#[tactic(auto, using(crate::proofs::Grammar::never_both))]
+pub fn words_ask_for_something_or_are_wrong()
+    ensures some { (words : List (List ℕ)) → ((a : Asks) × Ask words a) ⊎ ((w : Wrong) × IsFirstWrong words w) }
+    ensures exclusive { (words : List (List ℕ)) (a : Asks) (w : Wrong) → Ask words a → IsFirstWrong words w → ⊥ }
 {}

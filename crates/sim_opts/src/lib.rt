@@ -1,16 +1,36 @@
 //! The words of a command: what they ask for.
+//!
+//! `read_request` reads the shapes of the commands as they are built, without memory. `read_words`
+//! reads words by one table of options (`table`): in any order, each no more often than it may
+//! stand. The crate promises that `read_words` answers exactly what the grammar of options says
+//! (`specs/Words`), or the first wrong place and its reason, and never both; that the order of
+//! options says nothing; and that options which are written are read back.
 #![tactic(auto)]
 
+mod asked;
 mod laws;
+mod names;
+mod options;
 mod reading;
 mod request;
+mod table;
 #[cfg(test)]
 mod tests;
+mod values;
 mod word;
+mod words;
+#[cfg(test)]
+mod words_tests;
 
+pub use asked::{WordFault, clash, is_unbuilt, read_words};
 pub use laws::{
     numbers_have_one_word, requests_are_read_by_their_shape, start_blocks_have_their_length,
-    words_have_one_request,
+    words_are_read_by_the_grammar, words_are_refused_at_the_first_wrong_place,
+    words_ask_for_one_thing_at_most, words_ask_for_something_or_are_wrong, words_have_one_request,
 };
+pub use names::Names;
+pub use options::Options;
 pub use reading::read_request;
 pub use request::{Record, Request, SimSafe};
+pub use table::Tool;
+pub use words::WordWhy;

@@ -2,7 +2,7 @@
 ghost use Rattle.std.specs.Prelude.{◌≡◌, ◌-◌, ◌^◌, map, min, string_bytes, option_copied};
 ghost use Rattle.std.specs.Char.{is_ascii_digit};
 ghost use Rattle.std.specs.List.{list_all};
-ghost use Rattle.sim_opts.specs.Word.{is_operand, has_leading_zero, is_number, number_of, start_block_length, fits_start_block, object_of};
+ghost use Rattle.sim_opts.specs.Word.{is_operand, has_leading_zero, is_number, number_of, digits_of, begins_with_dash, start_block_length, fits_start_block, object_of};
 
 /// The most digits of a number.
 const MOST_DIGITS: usize = 13;
@@ -56,6 +56,30 @@ pub fn number_of(word: &str) -> Option<u64>
     }
 }
 
+/// The number that a word writes, if it writes one.
+#[tactic(auto, using(crate::proofs::Numbers::parse_number))]
+pub fn digits_of(word: &str) -> Option<u64>
+    ensures { result ≡ digits_of word.now }
+{
+    if !is_number(word) {
+        return None;
+    }
+    match word.parse::<u64>() {
+        Ok(value) => Some(value),
+        Err(_) => None,
+    }
+}
+
+/// Whether a word begins with a dash.
+pub fn begins_with_dash(word: &str) -> bool
+    ensures { result ≡ begins_with_dash word.now }
+{
+    match word.as_bytes() {
+        [first, ..] => *first == b'-',
+        [] => false,
+    }
+}
+
 /// How many bytes the start block of these arguments has, or 2^64 - 1 where that is less.
 fn start_block_length(args: &[String]) -> u64
     ensures { result ≡ min (start_block_length (map string_bytes args.now)) (2 ^ 64 - 1) }
@@ -68,7 +92,7 @@ fn start_block_length(args: &[String]) -> u64
 }
 
 /// Whether the start block of these arguments has at most 16,384 bytes.
-fn fits_start_block(args: &[String]) -> bool
+pub fn fits_start_block(args: &[String]) -> bool
     ensures { result ≡ fits_start_block (map string_bytes args.now) }
 {
     start_block_length(args) <= LONGEST_BLOCK
