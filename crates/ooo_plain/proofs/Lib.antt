@@ -1,0 +1,6 @@
+pub mod Lists
+pub mod Producers
+pub mod Sweeps
+pub mod Squashes
+pub mod Commits
+pub mod Dispatches

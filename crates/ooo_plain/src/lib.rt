@@ -1,0 +1,15 @@
+//! The out-of-order machine, plainly: a slow program that computes the table of its rows.
+//!
+//! It keeps every row that was ever fetched, and asks each rule of all of them. A row is kept with
+//! what its instruction does at the state on which it acts, and not with that state. The contract of
+//! each stage is one equation: the rows that it leaves are those of the table's definition of the
+//! stage, each as it is kept.
+#![tactic(auto)]
+
+pub mod commit;
+pub mod dispatch;
+mod done;
+pub mod recover;
+mod row;
+
+pub use row::{Places, Row};
