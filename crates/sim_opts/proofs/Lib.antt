@@ -9,3 +9,4 @@ pub mod Judged
 pub mod Walking
 pub mod Grammar
 pub mod Saying
+pub mod Order

@@ -1,10 +1,14 @@
 //! What follows from the definitions, each law as the contract of a function that does nothing.
-ghost use Rattle.std.specs.Prelude.{◌≡◌, ℕ, ◌^◌, ◌≤◌, Bool, List, length, decimal, Some, Ok, Err, ◌↔◌, ◌⊎◌};
+ghost use Rattle.std.specs.Prelude.{◌≡◌, ℕ, ◌^◌, ◌≤◌, ◌++◌, ◌∷◌, [], Bool, false, List, length, None, decimal, Some, Ok, Err, ◌↔◌, ◌⊎◌};
 ghost use Rattle.ecoff_load.specs.Start.{block};
 ghost use Rattle.sim_opts.specs.Word.{number_of, start_block_length};
 ghost use Rattle.sim_opts.specs.Request.{Request, HasShape};
 ghost use Rattle.sim_opts.specs.Reading.{request_of};
-ghost use Rattle.sim_opts.specs.Words.{Asks, Ask, IsFirstWrong, read};
+ghost use Rattle.sim_opts.specs.declared.table.Tool.{Tool};
+ghost use Rattle.sim_opts.specs.Table.{tool_name};
+ghost use Rattle.sim_opts.specs.Settings.{Setting, of_option, count, written, AreSettings};
+ghost use Rattle.sim_opts.specs.Options.{said_by};
+ghost use Rattle.sim_opts.specs.Words.{Asks, asks, Ask, IsFirstWrong, begins_with_option, operands_fault, read};
 ghost use Rattle.sim_opts.specs.declared.words.Wrong.{Wrong};
 
 /// Words are read as a request exactly where they have its shape.
@@ -58,4 +62,25 @@ pub fn words_ask_for_one_thing_at_most()
 pub fn words_ask_for_something_or_are_wrong()
     ensures some { (words : List (List ℕ)) → ((a : Asks) × Ask words a) ⊎ ((w : Wrong) × IsFirstWrong words w) }
     ensures exclusive { (words : List (List ℕ)) (a : Asks) (w : Wrong) → Ask words a → IsFirstWrong words w → ⊥ }
+{}
+
+/// Words that have the same options each, in whatever order of the options, with the same behind
+/// them, say the same.
+pub fn the_order_of_options_says_nothing()
+    ensures { (tool : Tool) (operands : List (List ℕ)) (first second : List Setting)
+        → ((n : ℕ) → of_option n first ≡ of_option n second)
+        → said_by (asks tool first operands) ≡ said_by (asks tool second operands) }
+{}
+
+/// Where no limit stands among the words, it is 1,000,000,000.
+pub fn a_limit_that_is_left_out_has_its_default()
+    ensures { (tool : Tool) (operands : List (List ℕ)) (settings : List Setting)
+        → count 6 settings ≡ 0 → (said_by (asks tool settings operands)).max_inst ≡ 1000000000 }
+{}
+
+/// Words that are written from options that may stand, in any order, are read as just these.
+pub fn written_options_are_read_back()
+    ensures { (tool : Tool) (settings : List Setting) (operands : List (List ℕ))
+        → AreSettings tool [] settings → begins_with_option operands ≡ false → operands_fault tool settings operands ≡ None
+        → read (tool_name tool ∷ (written settings ++ operands)) ≡ Ok (asks tool settings operands) }
 {}

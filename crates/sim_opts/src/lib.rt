@@ -24,9 +24,11 @@ mod words_tests;
 
 pub use asked::{WordFault, clash, is_unbuilt, read_words};
 pub use laws::{
-    numbers_have_one_word, requests_are_read_by_their_shape, start_blocks_have_their_length,
-    words_are_read_by_the_grammar, words_are_refused_at_the_first_wrong_place,
-    words_ask_for_one_thing_at_most, words_ask_for_something_or_are_wrong, words_have_one_request,
+    a_limit_that_is_left_out_has_its_default, numbers_have_one_word,
+    requests_are_read_by_their_shape, start_blocks_have_their_length,
+    the_order_of_options_says_nothing, words_are_read_by_the_grammar,
+    words_are_refused_at_the_first_wrong_place, words_ask_for_one_thing_at_most,
+    words_ask_for_something_or_are_wrong, words_have_one_request, written_options_are_read_back,
 };
 pub use names::Names;
 pub use options::Options;
