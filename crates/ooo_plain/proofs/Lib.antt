@@ -4,3 +4,4 @@ pub mod Sweeps
 pub mod Squashes
 pub mod Commits
 pub mod Dispatches
+pub mod Issues

@@ -9,6 +9,7 @@
 pub mod commit;
 pub mod dispatch;
 mod done;
+pub mod issue;
 pub mod recover;
 mod row;
 
