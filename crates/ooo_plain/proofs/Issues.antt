@@ -34,7 +34,7 @@ pub may_issue_by : (set : Setting) (c : ℕ) (config : OooConfig) (rows : List R
 may_issue_by set c config rows olds d r e k i path order free answer e1 e2 e3 e4 =
     let one = e1 ∙ (ap (λ x. x.right || config.wrong_issue) i ∙ ap (λ g. r.fetched.right || g.wrong_issue) e) in
     let all = e2 ∙ (list_all-kept set (λ o. not (is_live o) || is_before (c + 1) o.issued) (λ o. not (live o) || is_before (c + 1) o.issued) (λ o. refl) rows olds k
-        ∙ ap (λ n. list_all (λ o. not (live o) || is_before n o.issued) olds) (add-one c)) in
+    ∙ ap (λ n. list_all (λ o. not (live o) || is_before n o.issued) olds) (add-one c)) in
     let two = e3 ∙ (ap (λ b. not config.in_order || b) all ∙ ap (λ g. not g.in_order || list_all (λ o. not (live o) || is_before (suc c) o.issued) olds) e) in
     e4 ∙ (ap (λ b. b && free) one ∙ ap (λ b. (r.fetched.right || set.config.wrong_issue) && b) two)
 
