@@ -14,6 +14,8 @@ mod point;
 mod reading;
 mod restoring;
 mod taking;
+#[cfg(test)]
+mod tests;
 mod writing;
 
 pub use fault::{PointFault, PointWhy};

@@ -10,6 +10,13 @@ pub enum Issued {
     Access(u64, bool),
 }
 
+impl Default for Issued {
+    /// Row 0, which fills the unused cells of an `ArrayVec` and is never read there.
+    fn default() -> Issued {
+        Issued::Main(0)
+    }
+}
+
 /// What a turn of the dispatch stage did.
 #[derive(Clone, Copy, Debug, PartialEq, Eq)]
 pub enum Dispatched {

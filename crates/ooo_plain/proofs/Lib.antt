@@ -4,3 +4,8 @@ pub mod Sweeps
 pub mod Squashes
 pub mod Commits
 pub mod Dispatches
+pub mod Issues
+pub mod Told
+pub mod IssueTurns
+pub mod NextFetches
+pub mod Updated

@@ -31,6 +31,18 @@ same_default (suc at) (x ∷ xs) d e h = same_default at xs d e (omega arith)
 cons_parts : {X : Type 0} (x y : X) (xs ys : List X) → x ∷ xs ≡ y ∷ ys → record { first : x ≡ y; rest : xs ≡ ys }
 cons_parts x y xs ys e = record { first = ap (λ l. get_or l 0 x) e; rest = ap (λ l. drop 1 l) e }
 
+-- the row at a place, and the rows behind it as a slice
+pub record Parts (set' : Setting) (at : ℕ) (old : List Row) (d : Row) (olds : List table.Row) (r : table.Row) : Type 0 where
+  pub first : d ≡ kept set' r
+  pub rest : AreKept set' (behind at old) olds
+  pub later : AreKept set' (drop (at + 1) old) olds
+
+pub parts_at : (set' : Setting) (at : ℕ) (old : List Row) (d : Row) (olds : List table.Row) (r : table.Row) → at < length old → d ≡ get_or old at d → AreKept set' (drop at old) (r ∷ olds)
+    → Parts set' at old d olds r
+parts_at set' at old d olds r h is k =
+    let parts : record { first : get_or old at d ≡ kept set' r; rest : drop (at + 1) old ≡ map (kept set') olds } = cons_parts _ _ _ _ (sym (drop_at at old d h) ∙ k) in
+    record { first = is ∙ parts.first; rest = behind-is at old ∙ parts.rest; later = parts.rest }
+
 pub turned : (set' : Setting) (at : ℕ) (old new : List Row) (d : Row) (test : List table.Row → table.Row → Bool) (f : table.Row → table.Row) (g : Row → Row) (answer : Bool) (d' : Row)
     → at < length old → d ≡ get_or old at d
     → ((olds : List table.Row) (r : table.Row) → AreKept set' (behind at old) olds → d ≡ kept set' r → answer ≡ test olds r) → answer ≡ true
@@ -70,7 +82,7 @@ shorter zero zs = refl
 shorter (suc n) [] = refl
 shorter (suc n) (z ∷ zs) = ap (λ l. z ∷ l) (shorter n zs)
 
-take_shorter : {X : Type 0} (at : ℕ) (xs ys : List X) → take (at + 1) xs ≡ take (at + 1) ys → take at xs ≡ take at ys
+pub take_shorter : {X : Type 0} (at : ℕ) (xs ys : List X) → take (at + 1) xs ≡ take (at + 1) ys → take at xs ≡ take at ys
 take_shorter {X = X} at xs ys e =
     let f : take (suc at) xs ≡ take (suc at) ys = ap (λ n. take n xs) (sym (add-one at)) ∙ (e ∙ ap (λ n. take n ys) (add-one at)) in
     shorter at xs ∙ (ap (λ (l : List X). take at l) f ∙ sym (shorter at ys))
@@ -81,12 +93,12 @@ item zero (z ∷ zs) d = refl
 item (suc n) [] d = refl
 item (suc n) (z ∷ zs) d = item n zs d
 
-same_item : {X : Type 0} (at : ℕ) (xs ys : List X) (d : X) → take (at + 1) xs ≡ take (at + 1) ys → get_or xs at d ≡ get_or ys at d
+pub same_item : {X : Type 0} (at : ℕ) (xs ys : List X) (d : X) → take (at + 1) xs ≡ take (at + 1) ys → get_or xs at d ≡ get_or ys at d
 same_item {X = X} at xs ys d e =
     let f : take (suc at) xs ≡ take (suc at) ys = ap (λ n. take n xs) (sym (add-one at)) ∙ (e ∙ ap (λ n. take n ys) (add-one at)) in
     item at xs d ∙ (ap (λ (l : List X). get_or l at d) f ∙ sym (item at ys d))
 
-drop_past : {X : Type 0} (n : ℕ) (xs : List X) → length xs ≤ n → drop n xs ≡ []
+pub drop_past : {X : Type 0} (n : ℕ) (xs : List X) → length xs ≤ n → drop n xs ≡ []
 drop_past zero [] h = refl
 drop_past (suc n) [] h = refl
 drop_past zero (x ∷ xs) h = absurd (omega arith)

@@ -1,1 +1,5 @@
 pub mod Kept
+pub mod Held
+pub mod Asked
+pub mod IssueStage
+pub mod NextFetch

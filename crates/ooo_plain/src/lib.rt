@@ -9,7 +9,12 @@
 pub mod commit;
 pub mod dispatch;
 mod done;
+pub mod issue;
+pub mod issue_stage;
+pub mod next_fetch;
 pub mod recover;
+pub mod references;
 mod row;
+pub mod updates;
 
 pub use row::{Places, Row};

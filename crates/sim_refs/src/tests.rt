@@ -355,6 +355,55 @@ fn every_shape_and_replacement_counts_as_by_hand(rt: HostRuntime) -> Result<(), 
     Ok(())
 }
 
+/// A program as from a compiler: three system calls, a store to the one and a load from the other part of its data.
+const COMPILED: [Did; 15] = [
+    Did::Plain(0x0040_0140, Op::Addiu),
+    Did::Plain(0x0040_0148, Op::Lui),
+    Did::Plain(0x0040_0150, Op::Syscall),
+    Did::Plain(0x0040_0158, Op::Lui),
+    Did::Plain(0x0040_0160, Op::Ori),
+    Did::Access(0x0040_0168, Op::Sw, 0x1000_9000),
+    Did::Plain(0x0040_0170, Op::Lui),
+    Did::Plain(0x0040_0178, Op::Ori),
+    Did::Access(0x0040_0180, Op::Lw, 0x1000_8000),
+    Did::Plain(0x0040_0188, Op::Addiu),
+    Did::Plain(0x0040_0190, Op::Addiu),
+    Did::Plain(0x0040_0198, Op::Syscall),
+    Did::Plain(0x0040_01a0, Op::Addiu),
+    Did::Plain(0x0040_01a8, Op::Addiu),
+    Did::Plain(0x0040_01b0, Op::Syscall),
+];
+
+/// Whether it counts so under the defaults of the commands.
+fn compiled_is_counted(alloc: Global) -> Result<bool, OutOfMemory> {
+    let levels = [
+        Level::Own(shape(512, 32, 1, false)),
+        Level::Shared,
+        Level::Own(shape(128, 32, 4, false)),
+        Level::Own(shape(1024, 64, 4, false)),
+    ];
+    let tlbs = [
+        Some(shape(16, 4096, 4, false)),
+        Some(shape(32, 4096, 4, false)),
+    ];
+    let numbers = [
+        Some((11, 4, 0, 0)),
+        Some((0, 2, 0, 0)),
+        None,
+        Some((2, 4, 0, 0)),
+        Some((14, 1, 0, 0)),
+        Some((0, 2, 0, 0)),
+    ];
+    refers_so(alloc, &hierarchy(levels, tlbs), &COMPILED, &numbers)
+}
+
+#[test]
+fn a_program_of_a_compiler_counts_under_the_defaults(rt: HostRuntime) -> Result<(), Fail> {
+    let counted = compiled_is_counted(rt.alloc())?;
+    assert!(rt; counted);
+    Ok(())
+}
+
 /// The defaults of the commands with a shared first level and no second one behind it.
 fn first_object_is_counted(alloc: Global) -> Result<bool, OutOfMemory> {
     let levels = [

@@ -1,0 +1,10 @@
+mod Partial
+mod Lasts
+mod Head
+mod Counted
+mod Test
+mod Marked
+mod Stay
+mod Whole
+mod Fitting
+mod Due
