@@ -1,12 +1,11 @@
 -- How many commits came in the cycle, and which ports they hold.
-use Rattle.std.proofs.Common.{◌≡◌, ℕ, suc, ◌+◌, ◌<◌, ◌≤◌, Bool, true, false, cond, List, [], ◌∷◌, ◌++◌, Option, Some, None, refl, sym, ap, ◌∙◌, subst, arith, length}
-use Rattle.std.specs.Prelude.{◌&&◌, ◌||◌, not, nat_lt, nat_le, is_some, is_none, option_map, count_by}
-use Rattle.std.proofs.lemmas.Bool.{ltb-true, leb-true, false_from_ne_true, and_parts}
-use Rattle.ooo_table.specs.Row.{Row, MemoryAccess, is_at, accessed, sweep}
-use Rattle.ooo_table.specs.Execution.{Pool, Ports}
+use Rattle.std.proofs.Common.{◌≡◌, ℕ, ◌+◌, ◌<◌, Bool, true, false, cond, List, [], ◌∷◌, ◌++◌, Option, Some, None, refl, ap, ◌∙◌, subst, arith}
+use Rattle.std.specs.Prelude.{◌&&◌, ◌||◌, nat_lt, nat_le, option_map, count_by}
+use Rattle.std.proofs.lemmas.Bool.{ltb-true, false_from_ne_true, and_parts}
+use Rattle.ooo_table.specs.Row.{Row, MemoryAccess, is_at}
+use Rattle.ooo_table.specs.Execution.{Ports}
 use Rattle.ooo_table.specs.Table.{Setting}
-use Rattle.ooo_table.specs.Path.{execution, loads, stores}
-use Rattle.ooo_table.specs.Commit.{commits, commit_row}
+use Rattle.ooo_table.specs.Path.{loads, stores}
 use Rattle.ooo_table.specs.Issue.{holds, spans}
 use Rattle.ooo_table.specs.Cycle.{table}
 use Rattle.ooo_table.specs.Later.{Each, Where, Past}

@@ -1,16 +1,15 @@
 -- What the calls of a turn ask, where a row is due.
-use Rattle.std.proofs.Common.{◌≡◌, ℕ, suc, ◌+◌, ◌<◌, ◌≤◌, Bool, true, false, cond, List, [], ◌∷◌, ◌++◌, Option, Some, None, refl, sym, ap, ◌∙◌, subst, arith, length, take}
-use Rattle.std.specs.Prelude.{◌&&◌, ◌||◌, ◌-◌, not, nat_lt, map, option_map, slice_get, is_some, is_none, IsTrue}
+use Rattle.std.proofs.Common.{◌≡◌, ℕ, suc, Bool, true, false, cond, List, [], ◌∷◌, ◌++◌, Option, Some, None, refl, sym, ap, ◌∙◌, arith, length, take}
+use Rattle.std.specs.Prelude.{◌-◌, not, option_map, slice_get, is_some, is_none}
 use Rattle.std.proofs.lemmas.Bool.{and_parts, and_from, ltb-true}
 use Rattle.fu_pool.specs.declared.pools.Pool.TheVariants as pool
-use Rattle.fu_pool.specs.Takes.{Units, IsFree}
+use Rattle.fu_pool.specs.Takes.{IsFree}
 use Rattle.lsq_core.specs.Queue.{Entry, first_row}
 use Rattle.ruu_core.specs.declared.station.Station.{Station}
 use Rattle.ruu_core.specs.Window as unit
 use Rattle.core_parts.specs.declared.parts.Parts.{Parts}
 use Rattle.core_parts.specs.Fits.{Tag, unit_tags, queue_tags}
 use Rattle.core_commit.specs.Turn.{if_may, may_leave, has_port, leaving, is_memory}
-use Rattle.core_commit.proofs.Head.{both}
 use Rattle.core_commit.proofs.Lasts.{ends_in}
 use Rattle.core_commit.proofs.Fitting.{done_finished, tags_some}
 

@@ -1,6 +1,6 @@
 -- The parts fit together after a turn.
-use Rattle.std.proofs.Common.{◌≡◌, ℕ, suc, ◌+◌, ◌*◌, ◌^◌, ◌<◌, ◌≤◌, Bool, true, false, cond, List, [], ◌∷◌, ◌++◌, Option, Some, None, refl, sym, ap, ◌∙◌, subst, arith, length, length-append, take}
-use Rattle.std.specs.Prelude.{◌&&◌, ◌||◌, ◌-◌, not, max, nat_lt, map, filter, All, count_by}
+use Rattle.std.proofs.Common.{◌≡◌, ℕ, suc, ◌+◌, ◌<◌, ◌≤◌, Bool, true, false, cond, List, [], ◌∷◌, ◌++◌, Option, Some, None, refl, sym, ap, ◌∙◌, subst, arith, length, length-append, take}
+use Rattle.std.specs.Prelude.{◌&&◌, ◌-◌, not, max, map, filter, All, count_by}
 use Rattle.std.proofs.lemmas.Bool.{and_parts, lt-ltb, ltb-true}
 use Rattle.std.proofs.Math.Nat.{max-le}
 use Rattle.std.proofs.lemmas.List.Elements.{All-cons, All-head, All-tail, All-nil}
@@ -17,16 +17,14 @@ use Rattle.ruu_core.specs.declared.station.Station.{Station}
 use Rattle.ruu_core.specs.Window as unit
 use Rattle.ruu_core.specs.Window.{Window, is_above}
 use Rattle.ooo_front.specs.declared.row.FetchRow.{FetchRow}
-use Rattle.ooo_front.specs.Fetching.{FrontEnd}
 use Rattle.core_parts.specs.declared.addresses.MemoryRow.{MemoryRow}
 use Rattle.core_parts.specs.declared.parts.Parts.{Parts}
 use Rattle.core_parts.specs.Addresses.{AddressList}
 use Rattle.core_parts.specs.Fits as fits
 use Rattle.core_parts.specs.Fits.{Fits, Tag, IsBehind, unit_tags, queue_tags, address_tags}
 use Rattle.core_parts.proofs.Lists.{count_cons}
-use Rattle.core_commit.specs.Turn.{Leaves, Turns, Refers, HasReferred, is_memory, left_queue, left_addresses, stored_address}
+use Rattle.core_commit.specs.Turn.{Leaves, Turns, Refers, is_memory, left_queue, left_addresses, stored_address}
 use Rattle.core_commit.proofs.Lasts.{ends_in}
-use Rattle.core_commit.proofs.Head.{both}
 use Rattle.core_commit.proofs.Whole.{leaving_some}
 
 -- ---- lists without their last item

@@ -1,26 +1,24 @@
 -- The oldest live row: the test of its commit by its station, and no other row commits before it.
-use Rattle.std.proofs.Common.{◌≡◌, ℕ, suc, ◌+◌, ◌<◌, ◌≤◌, Bool, true, false, cond, List, [], ◌∷◌, ◌++◌, Option, Some, None, refl, sym, ap, ◌∙◌, subst, arith, inl, inr, length}
-use Rattle.std.specs.Prelude.{◌&&◌, ◌||◌, ◌==◌, not, nat_lt, nat_le, is_some, is_none, ◌⊎◌, filter, count_by}
+use Rattle.std.proofs.Common.{◌≡◌, ℕ, ◌<◌, ◌≤◌, Bool, true, false, cond, List, [], ◌∷◌, ◌++◌, Option, Some, None, refl, sym, ap, ◌∙◌, subst, arith, inl, inr}
+use Rattle.std.specs.Prelude.{◌&&◌, ◌||◌, not, is_some, is_none, ◌⊎◌, filter}
 use Rattle.std.specs.List.{list_any, list_all}
-use Rattle.std.proofs.lemmas.Bool.{and_parts, and_from, and_left, and_right, ltb-true, lt-ltb, cond-false, false_from_ne_true}
+use Rattle.std.proofs.lemmas.Bool.{and_parts, and_from, and_left, and_right, ltb-true, lt-ltb}
 use Rattle.pisa_isa.specs.declared.places.Place.{Place}
 use Rattle.ruu_core.specs.Window as unit
-use Rattle.ooo_table.specs.Row.{Row, MemoryAccess, is_at, is_before, accessed, returned, sweep}
-use Rattle.ooo_table.specs.Execution.{MemoryUse, NoMemory, LoadFrom, StoreTo, is_load, is_store, same_place, Pool, Ports}
+use Rattle.ooo_table.specs.Row.{Row, is_before, returned}
+use Rattle.ooo_table.specs.Execution.{MemoryUse, NoMemory, LoadFrom, StoreTo, is_load, is_store, same_place}
 use Rattle.ooo_table.specs.Table.{Setting}
 use Rattle.ooo_table.specs.Path.{execution, loads, stores}
 use Rattle.ooo_table.specs.Done.{live, waiting, written, finished, have_produced, done_before, unsquashed_before}
-use Rattle.ooo_table.specs.Commit.{commits, commit_row}
-use Rattle.ooo_table.specs.Issue.{holds, spans}
+use Rattle.ooo_table.specs.Commit.{commits}
 use Rattle.ooo_table.specs.Later.{Each, Where, By}
 use Rattle.ooo_table.specs.Legal.{CommitAllowed}
-use Rattle.ooo_table.specs.CycleLaws.{RowFacts, SquashSpreads, Passed}
+use Rattle.ooo_table.specs.CycleLaws.{SquashSpreads, Passed}
 use Rattle.ooo_table.specs.Machine.{Given, setting_of}
 use Rattle.ooo_table.proofs.RowFacts.{done_issued}
 use Rattle.ooo_table.proofs.Steps.{Kind, made_for, live_have}
 use Rattle.ooo_table.proofs.Times.{Gone}
-use Rattle.core_parts.specs.Rows.{Placed, pick, Lives}
-use Rattle.core_parts.proofs.Lists.{and_false, count_skip, count_cons}
+use Rattle.core_parts.specs.Rows.{pick, Lives}
 use Rattle.core_commit.proofs.Partial.{Fit}
 
 -- ---- small facts

@@ -1,7 +1,7 @@
 -- One row more has committed: what that changes, and what it leaves as it was.
-use Rattle.std.proofs.Common.{◌≡◌, ℕ, suc, ◌+◌, ◌<◌, ◌≤◌, Bool, true, false, cond, List, [], ◌∷◌, ◌++◌, Option, Some, None, refl, sym, ap, ◌∙◌, subst, arith, length, length-append, take}
-use Rattle.std.specs.Prelude.{◌&&◌, ◌||◌, ◌==◌, ◌-◌, not, nat_lt, is_some, is_none, find, filter_map, count_by}
-use Rattle.std.specs.List.{AllZip, list_any}
+use Rattle.std.proofs.Common.{◌≡◌, ℕ, ◌+◌, Bool, true, false, cond, List, [], ◌∷◌, ◌++◌, Option, Some, None, refl, sym, ap, ◌∙◌, arith, length, length-append}
+use Rattle.std.specs.Prelude.{◌&&◌, ◌==◌, is_some, find, filter_map, count_by}
+use Rattle.std.specs.List.{list_any}
 use Rattle.pisa_isa.specs.declared.places.Place.{Place}
 use Rattle.mem_hier.specs.Replay.{Reference, Fetch, Load, Store}
 use Rattle.bpred_unit.specs.History.{Event, Update}
@@ -9,18 +9,17 @@ use Rattle.lsq_core.specs.Queue.{Entry}
 use Rattle.ruu_core.specs.Window as unit
 use Rattle.core_parts.specs.declared.addresses.MemoryRow.{MemoryRow}
 use Rattle.ooo_front.specs.declared.row.FetchRow.{FetchRow}
-use Rattle.ooo_table.specs.Row.{Row, MemoryAccess, is_at, accessed, not_forwarded}
-use Rattle.ooo_table.specs.Execution.{Pool, Alus, Multipliers, Ports, address, same_place, uses_memory}
+use Rattle.ooo_table.specs.Row.{Row, is_at, accessed, not_forwarded}
+use Rattle.ooo_table.specs.Execution.{address, same_place}
 use Rattle.ooo_table.specs.Table.{Setting, NextFetch}
-use Rattle.ooo_table.specs.Path.{execution, loads, stores}
-use Rattle.ooo_table.specs.Done.{live, waiting, unsquashed_before, has_produced, have_produced, producer}
-use Rattle.ooo_table.specs.References.{references_of, store_references, load_references, fetch_references, updates_of}
-use Rattle.ooo_table.specs.Issue.{holds}
-use Rattle.ooo_table.specs.Later.{Each, Where}
+use Rattle.ooo_table.specs.Path.{execution, stores}
+use Rattle.ooo_table.specs.Done.{waiting, unsquashed_before, has_produced, have_produced, producer}
+use Rattle.ooo_table.specs.References.{references_of, store_references, updates_of}
+use Rattle.ooo_table.specs.Later.{Each}
 use Rattle.ooo_table.specs.CycleLaws.{as_next}
-use Rattle.ooo_table.specs.Machine.{Given, setting_of}
+use Rattle.ooo_table.specs.Machine.{Given}
 use Rattle.ooo_table.proofs.Units.{not_at, not_at_access}
-use Rattle.core_parts.specs.Rows.{Placed, pick, newest_number, in_queue, Lives, Holds, HasAddress, Waits}
+use Rattle.core_parts.specs.Rows.{newest_number, Lives, Holds, HasAddress, Waits}
 use Rattle.core_parts.specs.Stands.{next_of, settled, state_after}
 use Rattle.core_parts.proofs.Lists.{and_false, map_some, map_none, count_cons}
 use Rattle.core_commit.proofs.Partial.{Fit}

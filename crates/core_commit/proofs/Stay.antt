@@ -1,13 +1,11 @@
 -- The parts stand for the table with one row more committed.
-use Rattle.std.proofs.Common.{◌≡◌, ℕ, suc, ◌+◌, ◌<◌, ◌≤◌, Bool, true, false, cond, List, [], ◌∷◌, ◌++◌, Option, Some, None, refl, sym, ap, ◌∙◌, subst, arith, length, length-append, take}
-use Rattle.std.specs.Prelude.{◌&&◌, ◌||◌, ◌==◌, ◌-◌, not, nat_lt, nat_le, is_some, is_none, unwrap_or, count_by}
+use Rattle.std.proofs.Common.{◌≡◌, ℕ, suc, ◌+◌, ◌≤◌, Bool, true, false, cond, List, [], ◌∷◌, ◌++◌, Option, Some, None, refl, sym, ap, ◌∙◌, subst, arith, length, length-append, take}
+use Rattle.std.specs.Prelude.{◌&&◌, ◌||◌, ◌==◌, ◌-◌, not, nat_lt, is_some, is_none, unwrap_or, count_by}
 use Rattle.std.specs.List.{AllZip}
-use Rattle.std.proofs.lemmas.Bool.{lt-ltb, ltb-true}
 use Rattle.std.proofs.lemmas.Bool.Decides.{nat_tests}
 use Rattle.pisa_isa.specs.declared.classes.AccessKind.{AccessKind}
 use Rattle.pisa_isa.specs.declared.classes.AccessKind.TheVariants as access
 use Rattle.pisa_isa.specs.Classes.{control_of, access_of}
-use Rattle.sim_safe.specs.declared.record.CommitRecord.{CommitRecord}
 use Rattle.mem_hier.specs.Replay.{Reference, Store}
 use Rattle.mem_hier.specs.Stands as hierarchy
 use Rattle.mem_hier.specs.Stands.{Held}
@@ -17,12 +15,9 @@ use Rattle.bpred_unit.specs.Stands as predictor
 use Rattle.fu_pool.specs.declared.pools.Pool as units
 use Rattle.fu_pool.specs.declared.pools.Pool.TheVariants as pool
 use Rattle.fu_pool.specs.Takes.{Units, units_of, busy, same_pool}
-use Rattle.lsq_core.specs.Queue.{Entry, Queue}
-use Rattle.ruu_core.specs.declared.station.Station.{Station}
+use Rattle.lsq_core.specs.Queue.{Queue}
 use Rattle.ruu_core.specs.Window as unit
 use Rattle.ruu_core.specs.Window.{Window}
-use Rattle.ooo_front.specs.declared.row.FetchRow.{FetchRow}
-use Rattle.core_parts.specs.declared.addresses.MemoryRow.{MemoryRow}
 use Rattle.core_parts.specs.declared.parts.Parts.{Parts}
 use Rattle.core_parts.specs.Addresses.{AddressList}
 use Rattle.ooo_table.specs.Row.{Row, is_at, accessed}
@@ -33,9 +28,9 @@ use Rattle.ooo_table.specs.Done.{live, waiting}
 use Rattle.ooo_table.specs.References.{references_of, updates_of}
 use Rattle.ooo_table.specs.Issue.{holds, spans}
 use Rattle.ooo_table.specs.Later.{Each}
-use Rattle.ooo_table.specs.Machine.{Given, setting_of, memory_use, is_control, done_as}
-use Rattle.core_parts.specs.Rows.{Placed, pick, newest_number, in_queue, Lives, Holds, HasAddress, Waits, Describes, Did}
-use Rattle.core_parts.specs.Stands.{Stands, StandsBy, PoolsStand, pool_of, acting, next_of, settled}
+use Rattle.ooo_table.specs.Machine.{Given, setting_of, memory_use, is_control}
+use Rattle.core_parts.specs.Rows.{Placed, pick, in_queue, Lives, Holds, HasAddress, Waits, Did}
+use Rattle.core_parts.specs.Stands.{Stands, PoolsStand, pool_of}
 use Rattle.core_parts.proofs.Lists.{and_false, same_number}
 use Rattle.core_commit.specs.Turn.{Leaves, Refers, Teaches, address_in, taken_in, stored_address, was_taken, is_memory, left_queue, left_addresses}
 use Rattle.core_commit.proofs.Partial.{Fit}

@@ -1,24 +1,22 @@
 -- The test of the oldest live row by its station and the pools is that of the table, and where it fails no row commits.
-use Rattle.std.proofs.Common.{◌≡◌, ℕ, suc, ◌+◌, ◌<◌, ◌≤◌, Bool, true, false, cond, List, [], ◌∷◌, ◌++◌, Option, Some, None, refl, sym, ap, ◌∙◌, subst, arith, length}
+use Rattle.std.proofs.Common.{◌≡◌, ℕ, Bool, true, false, List, [], ◌∷◌, ◌++◌, Some, refl, sym, ap, ◌∙◌, subst}
 use Rattle.std.specs.Prelude.{◌&&◌, ◌||◌, not, nat_lt, is_some, is_none, count_by}
 use Rattle.std.specs.List.{list_all}
-use Rattle.std.proofs.lemmas.Bool.{and_parts, cond-false, false_from_ne_true}
+use Rattle.std.proofs.lemmas.Bool.{cond-false}
 use Rattle.fu_pool.specs.declared.pools.Pool.TheVariants as pool
 use Rattle.fu_pool.specs.Takes.{Units, units_of, units_in, busy}
 use Rattle.ruu_core.specs.Window as unit
 use Rattle.ooo_table.specs.Row.{Row, is_at, sweep}
-use Rattle.ooo_table.specs.Execution.{Pool, Ports}
 use Rattle.ooo_table.specs.Table.{Setting}
 use Rattle.ooo_table.specs.Path.{execution, stores}
 use Rattle.ooo_table.specs.Done.{live, done_before}
 use Rattle.ooo_table.specs.Commit.{commits, commit_row}
-use Rattle.ooo_table.specs.Issue.{holds}
 use Rattle.ooo_table.specs.Later.{Each}
 use Rattle.ooo_table.specs.Machine.{Given, setting_of}
-use Rattle.core_parts.specs.Rows.{Placed, pick, Lives}
+use Rattle.core_parts.specs.Rows.{pick, Lives}
 use Rattle.core_commit.specs.Turn.{has_port}
 use Rattle.core_commit.proofs.Partial.{Fit}
-use Rattle.core_commit.proofs.Head.{both, either, in_middle, live_parts, settled, head_has, done_same, commits_live, commits_oldest, not_picked}
+use Rattle.core_commit.proofs.Head.{both, in_middle, live_parts, settled, head_has, done_same, commits_live, commits_oldest, not_picked}
 
 joined : (right unset done all store r' done' port : Bool) (m n w w' q p : ℕ) → r' ≡ right → unset ≡ true → all ≡ true → done ≡ done' → m ≡ n → w' ≡ w
     → port ≡ (not store || nat_lt q p)

@@ -1,18 +1,16 @@
 -- A turn over the parts is a turn of the table.
-use Rattle.std.proofs.Common.{◌≡◌, ℕ, suc, ◌+◌, ◌<◌, ◌≤◌, Bool, true, false, cond, List, [], ◌∷◌, ◌++◌, Option, Some, None, refl, sym, ap, ◌∙◌, subst, arith, length, length-append, take}
-use Rattle.std.specs.Prelude.{◌&&◌, ◌||◌, ◌-◌, not, nat_lt, slice_get, is_some, is_none, count_by}
+use Rattle.std.proofs.Common.{◌≡◌, ℕ, suc, ◌+◌, ◌<◌, Bool, true, false, cond, List, [], ◌∷◌, ◌++◌, Option, Some, None, refl, sym, ap, ◌∙◌, subst, arith, length, take}
+use Rattle.std.specs.Prelude.{◌&&◌, ◌-◌, not, slice_get, is_some, is_none, count_by}
 use Rattle.std.specs.List.{AllZip}
 use Rattle.std.proofs.lemmas.Bool.{cond-true, and_parts, and_from}
-use Rattle.std.proofs.lemmas.Option.{slice_get_within}
 use Rattle.fu_pool.specs.declared.pools.Pool.TheVariants as pool
-use Rattle.fu_pool.specs.Takes.{units_of, units_in, busy}
+use Rattle.fu_pool.specs.Takes.{units_of, busy}
 use Rattle.mem_hier.specs.Replay.{greatest_fetch_of, greatest_load_of}
 use Rattle.ruu_core.specs.declared.station.Station.{Station}
 use Rattle.ruu_core.specs.Window as unit
 use Rattle.ooo_table.specs.declared.config.OooConfig.{OooConfig}
 use Rattle.ooo_table.specs.Row.{Row, is_at, sweep}
 use Rattle.ooo_table.specs.Execution.{Ports}
-use Rattle.ooo_table.specs.Table.{Setting, Table}
 use Rattle.ooo_table.specs.Path.{stores}
 use Rattle.ooo_table.specs.Done.{live}
 use Rattle.ooo_table.specs.Commit.{commits, commit_row}
@@ -26,12 +24,12 @@ use Rattle.core_parts.specs.declared.parts.Parts.{Parts}
 use Rattle.core_parts.specs.Fits.{Fits}
 use Rattle.core_parts.specs.Rows.{Placed, pick, Lives}
 use Rattle.core_parts.specs.Stands.{Stands}
-use Rattle.core_parts.specs.Stages.{Committing, CommitsAs, CommitTurn, committed_up_to}
+use Rattle.core_parts.specs.Stages.{Committing, CommitsAs, CommitTurn}
 use Rattle.core_parts.proofs.Lists.{and_false, count_skip, count_take, length_sweep, same_number}
-use Rattle.core_commit.specs.Turn.{if_may, may_leave, has_port, leaving, Leaves, Turns}
+use Rattle.core_commit.specs.Turn.{if_may, may_leave, Leaves, Turns}
 use Rattle.core_commit.proofs.Partial.{Fit, fit_part}
-use Rattle.core_commit.proofs.Lasts.{ends_in, zip_end, Oldest, oldest_of}
-use Rattle.core_commit.proofs.Head.{both, in_middle, live_parts}
+use Rattle.core_commit.proofs.Lasts.{ends_in, zip_end, oldest_of}
+use Rattle.core_commit.proofs.Head.{both, in_middle}
 use Rattle.core_commit.proofs.Counted.{count_over, front_of, not_yet, ports_held}
 use Rattle.core_commit.proofs.Test.{head_test, Still, swept_still, none_still, head_still}
 use Rattle.core_commit.proofs.Marked.{marked}

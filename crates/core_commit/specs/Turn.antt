@@ -1,5 +1,5 @@
 -- A turn of the commit stage, over the parts.
-use Rattle.std.specs.Prelude.{◌≡◌, ℕ, ◌+◌, Bool, true, false, not, List, ◌∷◌, Option, Some, None, unwrap_or, length, nat_lt, ◌&&◌, ◌||◌, if◌then◌else◌}
+use Rattle.std.specs.Prelude.{◌≡◌, ℕ, Bool, true, false, List, ◌∷◌, Option, Some, None, unwrap_or, nat_lt, ◌&&◌, ◌||◌, if◌then◌else◌}
 use Rattle.sim_safe.specs.declared.record.CommitRecord.{CommitRecord}
 use Rattle.mem_hier.specs.declared.config.HierConfig.{HierConfig}
 use Rattle.mem_hier.specs.Replay.{Reference, Store}
