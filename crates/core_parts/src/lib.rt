@@ -11,6 +11,8 @@
 mod addresses;
 mod answers;
 mod parts;
+#[cfg(test)]
+mod tests;
 
 pub use addresses::{Addresses, MemoryRow};
 pub use answers::{Dispatched, Issued};

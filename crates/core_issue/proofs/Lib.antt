@@ -1,0 +1,12 @@
+mod Next
+mod Turned
+mod Stays
+mod Loop
+mod Sweep
+mod Queue
+mod Pools
+mod Live
+mod Tests
+mod Step
+mod Whole
+mod Issues
