@@ -1,7 +1,6 @@
 -- The issue stage takes parts that stand for the table to parts that stand for the table behind it.
-use Rattle.std.proofs.Common.{◌≡◌, ℕ, suc, ◌+◌, ◌<◌, ◌≤◌, Bool, true, false, cond, List, [], ◌∷◌, ◌++◌, Option, Some, None, refl, sym, ap, ◌∙◌, subst, arith, length}
-use Rattle.std.specs.Prelude.{◌&&◌, ◌==◌, not, is_some, is_none, find, filter_map, count_by, option_map}
-use Rattle.std.specs.List.{AllZip}
+use Rattle.std.proofs.Common.{◌≡◌, ℕ, ◌+◌, ◌<◌, Bool, true, false, cond, List, [], ◌∷◌, ◌++◌, Option, Some, None, refl, sym, ap, ◌∙◌, subst, arith, length}
+use Rattle.std.specs.Prelude.{◌&&◌, ◌==◌, not, is_some, find, filter_map, option_map}
 use Rattle.std.proofs.lemmas.Bool.Decides.{nat_tests}
 use Rattle.pisa_isa.specs.declared.classes.UnitClass.{UnitClass}
 use Rattle.mem_hier.specs.Replay.{Reference, Load, Store, Fetch}
@@ -9,18 +8,18 @@ use Rattle.mem_hier.specs.Stands as hierarchy
 use Rattle.mem_hier.proofs.LawProofs.{bounds}
 use Rattle.bpred_unit.specs.History.{Event, LookUp, Update, Recover}
 use Rattle.bpred_unit.specs.Stands as predictor
-use Rattle.fu_pool.specs.Takes.{units_of, units_in, busy}
+use Rattle.fu_pool.specs.Takes.{units_in}
 use Rattle.ooo_front.specs.declared.row.FetchRow.{FetchRow}
 use Rattle.ooo_table.specs.declared.config.OooConfig.{OooConfig}
 use Rattle.ooo_table.specs.Row.{Row, Fetched, MemoryAccess, is_at, accessed, not_forwarded, sweep}
 use Rattle.ooo_table.specs.Execution.{Pool, Alus, Multipliers, Ports, address, uses_memory, unit_latency, pool_size}
-use Rattle.ooo_table.specs.Table.{Setting, Table, NextFetch}
+use Rattle.ooo_table.specs.Table.{Setting, NextFetch}
 use Rattle.ooo_table.specs.Path.{execution, execution_of, stores, mispredicted}
-use Rattle.ooo_table.specs.Done.{live, waiting, written}
+use Rattle.ooo_table.specs.Done.{live, waiting}
 use Rattle.ooo_table.specs.References.{store_references, load_references, references_of, predictor_events_of}
 use Rattle.ooo_table.specs.Recovery.{recovers}
 use Rattle.ooo_table.specs.Issue.{issue_row, access_of}
-use Rattle.ooo_table.specs.Cycle.{table, after_recover, after_issue}
+use Rattle.ooo_table.specs.Cycle.{after_recover, after_issue}
 use Rattle.ooo_table.specs.Later.{Each}
 use Rattle.ooo_table.specs.CycleLaws.{Fresh, as_next}
 use Rattle.ooo_table.specs.Bound.{Rises, Bounded}
@@ -35,12 +34,12 @@ use Rattle.ooo_table.proofs.Stages.{issues_live}
 use Rattle.ooo_table.proofs.Timely.{bounded}
 use Rattle.core_parts.specs.declared.answers.Issued.{Issued}
 use Rattle.core_parts.specs.declared.parts.Parts.{Parts}
-use Rattle.core_parts.specs.Stages.{issued_in, IssuesSo, Issues}
-use Rattle.core_parts.specs.Stands.{pool_of, next_of, settled, state_after, Stands, StandsBy}
+use Rattle.core_parts.specs.Stages.{IssuesSo, Issues}
+use Rattle.core_parts.specs.Stands.{pool_of, next_of, settled, state_after, Stands}
 use Rattle.core_parts.specs.Fits.{HasSizes}
-use Rattle.core_parts.specs.Rows.{pick, newest_number, Placed, Waits}
+use Rattle.core_parts.specs.Rows.{newest_number, Waits}
 use Rattle.core_parts.proofs.Lists.{map_none, map_sweep, count_sweep, length_sweep}
-use Rattle.core_issue.specs.Stage.{Shared, rules_of, shared_of, Ran, RanAll}
+use Rattle.core_issue.specs.Stage.{rules_of, shared_of, RanAll}
 use Rattle.core_issue.proofs.Sweep.{Slow, turn_cases, unissued, fetched_same, dispatched_same, waiting_same, zip_turns, queue_same, addresses_same}
 use Rattle.core_issue.proofs.Live.{fit_three}
 use Rattle.core_issue.proofs.Whole.{says, Done, ran_done}

@@ -1,17 +1,17 @@
 -- What the loop over the turns keeps.
-use Rattle.std.proofs.Common.{◌≡◌, ℕ, ◌+◌, ◌*◌, ◌^◌, ◌<◌, ◌≤◌, Some, None, cond, Bool, true, false, List, [], ◌∷◌, ◌++◌, length, refl, sym, ap, ◌∙◌, subst, arith, length-append, IsTrue, inl, inr}
+use Rattle.std.proofs.Common.{◌≡◌, ℕ, ◌+◌, ◌<◌, ◌≤◌, Some, None, Bool, true, false, List, [], ◌++◌, length, refl, sym, ap, ◌∙◌, subst, arith, length-append, inl, inr}
 use Rattle.std.specs.Prelude.{Option, option_to_list, nat_lt, ◌&&◌, ◌||◌, ◌⊎◌}
 use Rattle.std.proofs.lemmas.Bool.{ltb-true}
 use Rattle.fu_pool.specs.declared.pools.Pool.TheVariants as pool
 use Rattle.lsq_core.specs.Queue.{load_answer}
-use Rattle.ruu_core.specs.Window.{Row, is_above, is_live, is_ready, may_access, passes, rises_to}
+use Rattle.ruu_core.specs.Window.{Row, is_live, is_ready, may_access, rises_to}
 use Rattle.core_parts.specs.declared.answers.Issued.{Issued}
 use Rattle.core_parts.specs.declared.parts.Parts.{Parts}
-use Rattle.core_parts.specs.Fits.{HasNumbers, Fits}
+use Rattle.core_parts.specs.Fits.{Fits}
 use Rattle.core_parts.specs.Rows.{unit_class}
 use Rattle.core_issue.specs.declared.turns.Turn.{Turn}
 use Rattle.core_issue.specs.Turns.{pool_for, has_free, has_unit, is_ok, may_go, next_turn, MayTurn, TurnOf}
-use Rattle.core_issue.specs.Stage.{Rules, Shared, rules_of, shared_of, is_ordered, main_issues, access_issues, StepBy, RanAll}
+use Rattle.core_issue.specs.Stage.{rules_of, shared_of, is_ordered, main_issues, access_issues, StepBy, RanAll}
 use Rattle.core_issue.proofs.Next.{IsNext, found, over, passes_live, held}
 use Rattle.core_issue.proofs.Turned.{Step, Taken, Turned, taken, turned_start, turned_end}
 use Rattle.core_issue.proofs.Stays.{fits_step, above_count, fewer}

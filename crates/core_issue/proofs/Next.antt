@@ -1,8 +1,8 @@
 -- Whose turn is next.
-use Rattle.std.proofs.Common.{◌≡◌, ℕ, ◌+◌, ◌<◌, ◌≤◌, Some, None, cond, Bool, true, false, List, [], ◌∷◌, ◌++◌, refl, sym, ap, ◌∙◌, subst, arith, eq-eqb}
-use Rattle.std.specs.Prelude.{map, filter, min, Option, ◌==◌, ◌&&◌, ◌||◌, not, is_none, nat_le, nat_lt, IsTrue, count_by}
+use Rattle.std.proofs.Common.{◌≡◌, ℕ, ◌<◌, ◌≤◌, Some, None, cond, Bool, true, false, List, [], ◌∷◌, refl, sym, ap, ◌∙◌, subst, arith, eq-eqb}
+use Rattle.std.specs.Prelude.{map, filter, min, Option, ◌==◌, ◌&&◌, ◌||◌, not, is_none, nat_le}
 use Rattle.std.specs.List.{list_any}
-use Rattle.std.proofs.lemmas.Bool.{eqb-true, ltb-true, lt-ltb, leb-true, le-leb, and_parts}
+use Rattle.std.proofs.lemmas.Bool.{eqb-true, leb-true, le-leb}
 use Rattle.pisa_isa.specs.declared.classes.AccessKind.{AccessKind}
 use Rattle.pisa_isa.specs.declared.classes.AccessKind.TheVariants as access
 use Rattle.pisa_isa.specs.Classes.{access_of}
@@ -12,7 +12,6 @@ use Rattle.ruu_core.specs.Window.{Row, Window, is_above, is_row, is_live, is_by,
 use Rattle.ruu_core.specs.Laws.{AnswersTheLeast}
 use Rattle.ruu_core.proofs.LawProofs.{answers_the_least}
 use Rattle.core_parts.specs.Fits.{Tag, is_memory, unit_tags, queue_tags}
-use Rattle.core_parts.proofs.Lists.{count_cons}
 use Rattle.core_issue.specs.declared.turns.Turn.{Turn}
 use Rattle.core_issue.specs.Turns.{sooner, is_that, turn_for, next_turn}
 

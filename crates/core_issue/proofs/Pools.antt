@@ -1,23 +1,23 @@
 -- The units that turns take, in the pools and in the table.
-use Rattle.std.proofs.Common.{◌≡◌, ℕ, suc, ◌+◌, ◌<◌, ◌≤◌, Bool, true, false, cond, List, [], ◌∷◌, Option, Some, None, refl, sym, ap, ◌∙◌, subst, arith}
-use Rattle.std.specs.Prelude.{◌&&◌, ◌||◌, ◌==◌, not, nat_lt, count_by, option_map}
+use Rattle.std.proofs.Common.{◌≡◌, ℕ, ◌+◌, ◌≤◌, Bool, true, false, cond, List, [], ◌∷◌, Option, Some, None, refl, sym, ap, ◌∙◌, arith}
+use Rattle.std.specs.Prelude.{◌&&◌, ◌||◌, ◌==◌, nat_lt, count_by, option_map}
 use Rattle.std.proofs.lemmas.Bool.{and_right, le-leb, lt-ltb}
 use Rattle.pisa_isa.specs.declared.classes.UnitClass.{UnitClass}
 use Rattle.pisa_isa.specs.declared.classes.UnitClass.TheVariants as class
-use Rattle.mem_hier.specs.Replay.{Reference, Load}
+use Rattle.mem_hier.specs.Replay.{Reference}
 use Rattle.mem_hier.specs.Stands as hierarchy
 use Rattle.fu_pool.specs.declared.pools.Pool.TheVariants as pool
 use Rattle.fu_pool.specs.Takes.{Units, units_of, units_in, busy, same_pool}
-use Rattle.ooo_table.specs.Row.{Row, MemoryAccess, is_at, accessed, not_forwarded, sweep}
-use Rattle.ooo_table.specs.Execution.{MemoryUse, NoMemory, LoadFrom, StoreTo, Pool, Alus, Multipliers, Ports, is_of, is_load, is_store, unit_hold, pool_size, address}
+use Rattle.ooo_table.specs.Row.{Row, MemoryAccess, is_at, accessed, sweep}
+use Rattle.ooo_table.specs.Execution.{MemoryUse, NoMemory, LoadFrom, StoreTo, Pool, Alus, Multipliers, Ports, is_of, is_load, is_store, unit_hold, pool_size}
 use Rattle.ooo_table.specs.Table.{Setting}
 use Rattle.ooo_table.specs.Path.{execution, loads, stores}
 use Rattle.ooo_table.specs.References.{load_references}
-use Rattle.ooo_table.specs.Issue.{issues, accesses, issue_row, access_of, holds, takes, has_unit, has_unit_for, issues_at, spans}
-use Rattle.ooo_table.specs.Later.{Each, Where}
+use Rattle.ooo_table.specs.Issue.{issue_row, access_of, holds, takes, has_unit, has_unit_for, issues_at, spans}
+use Rattle.ooo_table.specs.Later.{Each}
 use Rattle.ooo_table.specs.CycleLaws.{Fresh}
 use Rattle.ooo_table.specs.Bound.{Rises}
-use Rattle.ooo_table.specs.Machine.{Given, setting_of}
+use Rattle.ooo_table.specs.Machine.{Given}
 use Rattle.ooo_table.proofs.Units.{not_at, not_at_access, takes_none}
 use Rattle.core_parts.specs.Stands.{pool_of}
 use Rattle.core_parts.proofs.Lists.{same_number, count_cons}

@@ -6,7 +6,7 @@ use Rattle.std.proofs.lemmas.Bool.{and_parts, ltb-true, le-leb}
 use Rattle.std.proofs.lemmas.Bool.Decides.{nat_tests}
 use Rattle.lsq_core.specs.Queue as lsq
 use Rattle.lsq_core.specs.Queue.{Entry}
-use Rattle.ooo_table.specs.Row.{Row, is_before, every}
+use Rattle.ooo_table.specs.Row.{Row, is_before}
 use Rattle.ooo_table.specs.Execution.{MemoryUse, NoMemory, LoadFrom, StoreTo, is_load, is_store, uses_memory, address, same_block}
 use Rattle.ooo_table.specs.Table.{Setting}
 use Rattle.ooo_table.specs.Path.{execution, loads, stores}

@@ -1,25 +1,23 @@
 -- What the parts keep in a turn.
-use Rattle.std.proofs.Common.{◌≡◌, ℕ, ◌+◌, ◌*◌, ◌^◌, ◌<◌, ◌≤◌, Some, None, cond, Bool, true, false, List, [], ◌∷◌, ◌++◌, length, get_or, zero, suc, refl, sym, ap, ◌∙◌, subst, arith, length-append, All}
+use Rattle.std.proofs.Common.{◌≡◌, ℕ, ◌+◌, ◌<◌, ◌≤◌, Some, None, cond, Bool, true, false, List, [], ◌∷◌, ◌++◌, length, get_or, zero, suc, refl, sym, ap, ◌∙◌, subst, arith, length-append, All}
 use Rattle.std.specs.Prelude.{map, filter, Option, ◌||◌, count_by, nat_lt}
 use Rattle.std.proofs.lemmas.Bool.{ltb-true, lt-ltb}
 use Rattle.fu_pool.specs.declared.pools.Pool.{Pool}
 use Rattle.fu_pool.specs.declared.pools.Pool.TheVariants as pool
 use Rattle.fu_pool.specs.Takes.{Units, units_in}
 use Rattle.mem_hier.specs.Stands as hierarchy
-use Rattle.pisa_isa.specs.declared.classes.UnitClass.{UnitClass}
-use Rattle.pisa_isa.specs.declared.classes.UnitClass.TheVariants as class
 use Rattle.ooo_table.specs.Execution.{unit_hold}
 use Rattle.bpred_unit.specs.Stands.{IsTop, cells_of}
 use Rattle.ruu_core.specs.declared.station.Station.{Station}
 use Rattle.ruu_core.specs.Window.{Row, is_above, is_load, is_store}
 use Rattle.core_parts.specs.declared.answers.Issued.{Issued}
 use Rattle.core_parts.specs.declared.parts.Parts.{Parts}
-use Rattle.core_parts.specs.Fits.{Tag, is_memory, unit_tags, HasSizes, IsInTime, HasNumbers, Agree, Fits}
+use Rattle.core_parts.specs.Fits.{Tag, is_memory, unit_tags, Fits}
 use Rattle.core_parts.specs.Addresses.{address_of}
 use Rattle.core_parts.specs.Rows.{unit_class}
 use Rattle.core_parts.proofs.Lists.{count_cons}
 use Rattle.core_issue.specs.declared.turns.Turn.{Turn}
-use Rattle.core_issue.specs.Turns.{pool_for, TakesUnit, Takes, Returns}
+use Rattle.core_issue.specs.Turns.{pool_for, TakesUnit, Returns}
 use Rattle.core_issue.specs.Stage.{Rules, Shared, rules_of, shared_of, main_issues, access_issues, forwards, StepBy}
 use Rattle.core_issue.proofs.Next.{apart}
 use Rattle.core_issue.proofs.Turned.{Step, Taken}

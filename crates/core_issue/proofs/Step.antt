@@ -1,18 +1,15 @@
 -- A row's turn in the unit is its turn in the table.
-use Rattle.std.proofs.Common.{◌≡◌, ℕ, suc, ◌+◌, ◌<◌, ◌≤◌, Bool, true, false, cond, List, [], ◌∷◌, ◌++◌, Option, Some, None, refl, sym, ap, ◌∙◌, subst, arith, length, length-append, max}
-use Rattle.std.specs.Prelude.{◌&&◌, ◌||◌, ◌==◌, not, nat_lt, filter_map, count_by, option_map, is_none}
-use Rattle.std.proofs.lemmas.Bool.{and_parts}
+use Rattle.std.proofs.Common.{◌≡◌, ℕ, ◌+◌, ◌≤◌, Bool, true, false, cond, List, [], ◌∷◌, ◌++◌, Option, Some, None, refl, sym, ap, ◌∙◌, subst, arith, length, length-append, max}
+use Rattle.std.specs.Prelude.{◌&&◌, ◌||◌, ◌==◌, not, nat_lt, count_by}
 use Rattle.mem_hier.specs.Replay.{Reference, Load, latency_of}
 use Rattle.mem_hier.specs.Stands as hierarchy
 use Rattle.fu_pool.specs.declared.pools.Pool.{Pool as Taken}
-use Rattle.fu_pool.specs.declared.pools.Pool.TheVariants as pool
-use Rattle.fu_pool.specs.Takes.{Units, units_of, units_in, busy, same_pool}
+use Rattle.fu_pool.specs.Takes.{Units, units_of, units_in, busy}
 use Rattle.ruu_core.specs.Window as unit
-use Rattle.ooo_table.specs.Row.{Row, MemoryAccess, is_at, accessed, returned, not_forwarded, sweep}
-use Rattle.ooo_table.specs.Execution.{Pool, is_of, unit_hold, unit_latency, pool_size, address}
+use Rattle.ooo_table.specs.Row.{Row, MemoryAccess, is_at, accessed, not_forwarded}
+use Rattle.ooo_table.specs.Execution.{Pool, is_of, unit_hold, unit_latency, address}
 use Rattle.ooo_table.specs.Table.{Setting}
 use Rattle.ooo_table.specs.Path.{execution, loads}
-use Rattle.ooo_table.specs.Done.{live, written}
 use Rattle.ooo_table.specs.References.{load_references}
 use Rattle.ooo_table.specs.Issue.{issues, accesses, issue_row, access_of, is_forwarded, holds, issues_at}
 use Rattle.ooo_table.specs.CycleLaws.{Fresh}
@@ -25,11 +22,11 @@ use Rattle.core_parts.specs.declared.answers.Issued.TheVariants as issued
 use Rattle.core_parts.specs.Addresses.{address_of}
 use Rattle.core_parts.specs.Stages.{issued_of, issued_in}
 use Rattle.core_parts.specs.Stands.{pool_of}
-use Rattle.core_parts.specs.Rows.{unit_class, Placed, Lives}
+use Rattle.core_parts.specs.Rows.{unit_class, Lives}
 use Rattle.core_parts.proofs.Lists.{and_false, same_number, count_cons, count_skip, count_take, map_some, map_none}
-use Rattle.core_issue.specs.Turns.{pool_for, TakesUnit, Takes, Returns, is_ok}
+use Rattle.core_issue.specs.Turns.{pool_for, TakesUnit, Returns}
 use Rattle.core_issue.specs.Stage.{Rules, Shared, main_issues, access_issues, forwards, StepBy}
-use Rattle.core_issue.proofs.Sweep.{Slow, turn_cases, unissued, unread, is_loaded}
+use Rattle.core_issue.proofs.Sweep.{Slow, unissued, unread, is_loaded}
 use Rattle.core_issue.proofs.Pools.{one, Mid, issue_holds, access_holds, taken_units}
 
 none_at : (c : ℕ) (r : Row) → Fresh c r → is_at c r.issued ≡ false

@@ -6,10 +6,10 @@ use Rattle.std.proofs.lemmas.Bool.{and_parts, le-ltb}
 use Rattle.pisa_isa.specs.declared.places.Place.{Place}
 use Rattle.mem_hier.specs.Replay.{Reference, Load}
 use Rattle.lsq_core.specs.Queue.{Entry}
-use Rattle.ooo_table.specs.Row.{Row, Fetched, MemoryAccess, is_at, is_before, accessed, returned, sweep}
-use Rattle.ooo_table.specs.Execution.{is_load, is_store, uses_memory, address, same_place, unit_latency}
+use Rattle.ooo_table.specs.Row.{Row, Fetched, MemoryAccess, is_before, returned, sweep}
+use Rattle.ooo_table.specs.Execution.{is_load, is_store, address, same_place, unit_latency}
 use Rattle.ooo_table.specs.Table.{Setting}
-use Rattle.ooo_table.specs.Path.{execution, execution_of, loads, stores}
+use Rattle.ooo_table.specs.Path.{execution, execution_of, loads}
 use Rattle.ooo_table.specs.Done.{live, waiting, written, finished, unsquashed_before, producer, has_produced, have_produced}
 use Rattle.ooo_table.specs.References.{load_references}
 use Rattle.ooo_table.specs.Issue.{issues, accesses, issue_row, access_of, is_forwarded}

@@ -1,17 +1,16 @@
 -- A row of the unit may issue exactly where the row of the table may.
-use Rattle.std.proofs.Common.{◌≡◌, ℕ, suc, ◌+◌, ◌/◌, ◌≤◌, Bool, true, false, cond, List, [], ◌∷◌, Option, Some, None, refl, sym, ap, ◌∙◌, arith}
-use Rattle.std.specs.Prelude.{◌&&◌, ◌||◌, not, nat_lt, is_some, is_none, count_by, option_map}
-use Rattle.std.specs.List.{AllZip, list_any, list_all}
+use Rattle.std.proofs.Common.{◌≡◌, ℕ, suc, ◌/◌, ◌≤◌, Bool, true, false, cond, List, [], ◌∷◌, Option, Some, None, refl, sym, ap, ◌∙◌, arith}
+use Rattle.std.specs.Prelude.{◌&&◌, ◌||◌, not, nat_lt, is_none, count_by, option_map}
+use Rattle.std.specs.List.{AllZip, list_all}
 use Rattle.std.proofs.lemmas.Bool.{lt-ltb}
-use Rattle.mem_hier.specs.Replay.{Reference}
 use Rattle.fu_pool.specs.declared.pools.Pool.TheVariants as pool
 use Rattle.fu_pool.specs.Takes.{Units}
 use Rattle.lsq_core.specs.Queue as lsq
 use Rattle.lsq_core.specs.Queue.{Entry}
 use Rattle.ruu_core.specs.Window as unit
 use Rattle.ooo_table.specs.declared.config.OooConfig.{OooConfig}
-use Rattle.ooo_table.specs.Row.{Row, MemoryAccess, is_before, accessed}
-use Rattle.ooo_table.specs.Execution.{Pool, Ports, address}
+use Rattle.ooo_table.specs.Row.{Row, MemoryAccess, is_before}
+use Rattle.ooo_table.specs.Execution.{Ports, address}
 use Rattle.ooo_table.specs.Table.{Setting}
 use Rattle.ooo_table.specs.Path.{execution, loads}
 use Rattle.ooo_table.specs.Done.{live, written, have_produced}
@@ -19,8 +18,7 @@ use Rattle.ooo_table.specs.Issue.{issues, accesses, may_issue, has_width, has_un
 use Rattle.ooo_table.specs.Later.{Each, Where}
 use Rattle.ooo_table.specs.Machine.{Given, setting_of}
 use Rattle.ooo_table.proofs.Steps.{Kind}
-use Rattle.core_parts.specs.Stands.{pool_of}
-use Rattle.core_parts.specs.Rows.{pick, in_queue, unit_class, Placed, Lives, Holds}
+use Rattle.core_parts.specs.Rows.{pick, in_queue, unit_class, Lives, Holds}
 use Rattle.core_issue.specs.Turns as turns
 use Rattle.core_issue.specs.Turns.{pool_for, has_free, has_unit as has_one, is_ok, may_go}
 use Rattle.core_issue.specs.Stage.{Rules, is_ordered, main_issues, access_issues, forwards}

@@ -1,8 +1,8 @@
 -- A turn by the number of its row is the turn of the row where it stands, and turns one after another are those of all rows.
 use Rattle.std.proofs.Common.{◌≡◌, ℕ, ◌+◌, ◌<◌, ◌≤◌, Some, None, cond, Bool, true, false, List, [], ◌∷◌, ◌++◌, length, refl, sym, ap, ◌∙◌, subst, arith, append_assoc, append-nil}
-use Rattle.std.specs.Prelude.{map, filter, Option, option_map, option_to_list, ◌==◌, ◌&&◌, ◌||◌, not, is_none, nat_le, nat_lt, count_by}
+use Rattle.std.specs.Prelude.{Option, option_map, option_to_list, ◌&&◌, ◌||◌, not, is_none, nat_le, nat_lt}
 use Rattle.std.specs.List.{list_all}
-use Rattle.std.proofs.lemmas.Bool.{eqb-true, ltb-true, lt-ltb, leb-true, le-leb, and_parts}
+use Rattle.std.proofs.lemmas.Bool.{eqb-true, ltb-true, lt-ltb, le-leb}
 use Rattle.std.proofs.lemmas.Bool.Decides.{nat_tests}
 use Rattle.fu_pool.specs.declared.pools.Pool.TheVariants as pool
 use Rattle.lsq_core.specs.Queue.{load_answer}
@@ -12,12 +12,11 @@ use Rattle.ruu_core.specs.Laws as law
 use Rattle.ruu_core.proofs.LawProofs.{stands_at}
 use Rattle.ooo_table.specs.Execution.{unit_latency}
 use Rattle.core_parts.specs.declared.answers.Issued.{Issued}
-use Rattle.core_parts.specs.declared.answers.Issued.TheVariants as issued
 use Rattle.core_parts.specs.declared.parts.Parts.{Parts}
 use Rattle.core_parts.specs.Rows.{unit_class}
 use Rattle.core_issue.specs.declared.turns.Turn.{Turn}
-use Rattle.core_issue.specs.Turns.{pool_for, has_free, has_unit, is_ok, may_go, reaches, is_forwarded, main_allowed, access_allowed, TurnBy, TurnOf}
-use Rattle.core_issue.specs.Stage.{Rules, Shared, rules_of, shared_of, is_ordered, main_issues, access_issues, forwards, StepBy, Ran, RanAll}
+use Rattle.core_issue.specs.Turns.{pool_for, has_free, has_unit, is_ok, may_go, reaches, main_allowed, access_allowed, TurnBy, TurnOf}
+use Rattle.core_issue.specs.Stage.{Rules, Shared, rules_of, shared_of, main_issues, access_issues, StepBy, Ran, RanAll}
 use Rattle.core_issue.proofs.Next.{IsNext, apart}
 
 -- ---- rows above a number and rows that aren't

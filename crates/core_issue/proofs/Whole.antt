@@ -1,57 +1,39 @@
 -- The turns of the unit's rows are the issue stage of the table.
 use Rattle.std.proofs.Common.{◌≡◌, ℕ, suc, ◌+◌, ◌/◌, ◌<◌, ◌≤◌, Bool, true, false, cond, List, [], ◌∷◌, ◌++◌, Option, Some, None, refl, sym, ap, ◌∙◌, subst, arith, length, append_assoc}
-use Rattle.std.specs.Prelude.{◌&&◌, ◌||◌, ◌==◌, not, nat_lt, is_some, is_none, find, filter_map, count_by, option_map}
+use Rattle.std.specs.Prelude.{◌&&◌, ◌||◌, ◌==◌, nat_lt, count_by}
 use Rattle.std.specs.List.{AllZip}
-use Rattle.std.proofs.lemmas.Bool.{and_parts, and_from, le-leb}
+use Rattle.std.proofs.lemmas.Bool.{and_from}
 use Rattle.std.proofs.lemmas.Bool.Decides.{nat_tests}
-use Rattle.pisa_isa.specs.declared.classes.UnitClass.{UnitClass}
-use Rattle.mem_hier.specs.Replay.{Reference, Load, Store, Fetch}
+use Rattle.mem_hier.specs.Replay.{Reference}
 use Rattle.mem_hier.specs.Stands as hierarchy
-use Rattle.mem_hier.proofs.LawProofs.{bounds}
-use Rattle.bpred_unit.specs.History.{Event, LookUp, Update, Recover}
-use Rattle.bpred_unit.specs.Stands as predictor
 use Rattle.fu_pool.specs.declared.pools.Pool.TheVariants as pool
-use Rattle.fu_pool.specs.Takes.{Units, units_of, units_in, busy}
+use Rattle.fu_pool.specs.Takes.{units_of, units_in, busy}
 use Rattle.lsq_core.specs.Queue as lsq
 use Rattle.lsq_core.specs.Queue.{Entry}
-use Rattle.ooo_front.specs.declared.row.FetchRow.{FetchRow}
 use Rattle.ruu_core.specs.Window as unit
-use Rattle.ooo_table.specs.Row.{Row, Fetched, MemoryAccess, is_at, is_before, accessed, not_forwarded, sweep}
-use Rattle.ooo_table.specs.Execution.{Pool, Alus, Multipliers, Ports, address, uses_memory, unit_latency, pool_size}
-use Rattle.ooo_table.specs.Table.{Setting, Table, NextFetch}
-use Rattle.ooo_table.specs.Path.{execution, execution_of, loads, stores, mispredicted}
-use Rattle.ooo_table.specs.Done.{live, waiting, written}
-use Rattle.ooo_table.specs.References.{store_references, load_references, references_of, predictor_events_of}
-use Rattle.ooo_table.specs.Recovery.{recovers}
+use Rattle.ooo_table.specs.Row.{Row, is_at, accessed, sweep}
+use Rattle.ooo_table.specs.Execution.{Pool, Ports, address, uses_memory, pool_size}
+use Rattle.ooo_table.specs.Table.{Setting}
+use Rattle.ooo_table.specs.Path.{execution, loads}
+use Rattle.ooo_table.specs.Done.{live}
 use Rattle.ooo_table.specs.Issue.{issues, accesses, issue_row, access_of, is_forwarded, holds, issues_at}
-use Rattle.ooo_table.specs.Cycle.{after_recover, after_issue}
 use Rattle.ooo_table.specs.Later.{Each, Where}
-use Rattle.ooo_table.specs.CycleLaws.{Fresh, SquashSpreads, IssuesLive, as_next}
-use Rattle.ooo_table.specs.Bound.{Rises, Bounded}
+use Rattle.ooo_table.specs.CycleLaws.{Fresh, SquashSpreads, IssuesLive}
+use Rattle.ooo_table.specs.Bound.{Rises}
 use Rattle.ooo_table.specs.Machine.{Given, setting_of}
-use Rattle.ooo_table.specs.MachineLaws.{IsSound}
-use Rattle.ooo_table.proofs.Route.{latency_some}
-use Rattle.ooo_table.proofs.Rising.{rises_stores, rises_table}
-use Rattle.ooo_table.proofs.Units.{not_at, not_at_access}
-use Rattle.ooo_table.proofs.CycleFacts.{fresh_two, follows_three}
-use Rattle.ooo_table.proofs.Stages.{issues_live}
-use Rattle.ooo_table.proofs.Timely.{bounded}
 use Rattle.core_parts.specs.declared.addresses.MemoryRow.{MemoryRow}
 use Rattle.core_parts.specs.declared.answers.Issued.{Issued}
-use Rattle.core_parts.specs.declared.parts.Parts.{Parts}
 use Rattle.core_parts.specs.Addresses.{address_of}
-use Rattle.core_parts.specs.Stages.{issued_in, IssuesSo, Issues}
-use Rattle.core_parts.specs.Stands.{pool_of, next_of, settled, state_after, Stands}
-use Rattle.core_parts.specs.Fits.{HasSizes}
-use Rattle.core_parts.specs.Rows.{pick, newest_number, in_queue, unit_class, Placed, Lives, Holds, HasAddress, Waits}
-use Rattle.core_parts.proofs.Lists.{map_none, map_sweep, count_sweep, length_sweep, same_number}
+use Rattle.core_parts.specs.Stands.{pool_of}
+use Rattle.core_parts.specs.Rows.{pick, in_queue, unit_class, Lives, Holds, HasAddress}
+use Rattle.core_parts.proofs.Lists.{length_sweep, same_number}
 use Rattle.core_issue.specs.Turns.{is_ok, has_free}
-use Rattle.core_issue.specs.Stage.{Rules, Shared, rules_of, shared_of, main_issues, access_issues, forwards, StepBy, Ran, RanAll}
+use Rattle.core_issue.specs.Stage.{Rules, Shared, access_issues, forwards, Ran}
 use Rattle.core_issue.proofs.Next.{apart}
-use Rattle.core_issue.proofs.Sweep.{Slow, turn_cases, unissued, fetched_same, dispatched_same, squashed_same, live_same, waiting_same, zip_turns, queue_same, addresses_same}
+use Rattle.core_issue.proofs.Sweep.{Slow, turn_cases, dispatched_same, squashed_same, live_same, queue_same}
 use Rattle.core_issue.proofs.Queue.{Above, above_less, above_last, answer_at, load_uses}
-use Rattle.core_issue.proofs.Pools.{Mid, free_same, unit_same}
-use Rattle.core_issue.proofs.Live.{Fit, none_of, live_parts, kinds_of, fit_two, fit_three}
+use Rattle.core_issue.proofs.Pools.{free_same, unit_same}
+use Rattle.core_issue.proofs.Live.{Fit, none_of, live_parts, kinds_of}
 use Rattle.core_issue.proofs.Tests.{Marked, Answers, issue_same, access_same, forwarded_same}
 use Rattle.core_issue.proofs.Step.{After, after_left, step_turn}
 

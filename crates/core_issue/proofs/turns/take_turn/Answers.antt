@@ -1,4 +1,4 @@
-use Rattle.std.proofs.Common.{◌≡◌, ◌∙◌, ◌&&◌, true, false, sym, ap, subst}
+use Rattle.std.proofs.Common.{◌≡◌, ◌∙◌, ◌&&◌, false, sym, ap, subst}
 use Rattle.core_parts.proofs.Lists.{and_false}
 use Rattle.core_issue.specs.Turns.{main_allowed, access_allowed, TurnBy}
 use Rattle.core_issue.proofs.turns.take_turn.Goals as goal
