@@ -1,9 +1,9 @@
-//! The out-of-order machine, plainly: a slow program that computes the table of its rows.
+//! The out-of-order machine, plainly: slow functions that do to rows what the stages of its table do.
 //!
-//! It keeps every row that was ever fetched, and asks each rule of all of them. A row is kept with
-//! what its instruction does at the state on which it acts, and not with that state. The contract of
-//! each stage is one equation: the rows that it leaves are those of the table's definition of the
-//! stage, each as it is kept.
+//! They are given every row that was ever fetched, and ask each rule of all of them. A row is kept
+//! with what its instruction does at the state on which it acts, and not with that state. The contract
+//! of each stage is one equation: the rows that it leaves are those of the table's definition of the
+//! stage, each as it is kept. No call yet does an instruction, fetches a row or runs a cycle.
 #![tactic(auto)]
 
 pub mod commit;

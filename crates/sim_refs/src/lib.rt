@@ -6,7 +6,8 @@
 //! `specs/References.antt` and `specs/Predictions.antt` give the references, the events and the
 //! counts as functions of the records. The crate promises that a new run stands for no records, that
 //! `feed` takes one that stands for some to one that stands for the record and those, and that every
-//! count is the one that the records give. After `new` no call takes memory.
+//! count is the one that the records give. After `new` no call takes memory but those that add lines to
+//! a text.
 #![tactic(auto)]
 
 mod cache_run;
