@@ -1,0 +1,4 @@
+mod Least
+mod Learns
+mod Fitting
+mod Named
