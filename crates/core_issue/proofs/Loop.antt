@@ -81,13 +81,13 @@ room c n old new front before s made step = by_test (main_issues c n (rules_of o
     by_test false false e f (is, none, same) = inl none
 
 -- after a turn
-pub record Went (c : ℕ) (start old new : Parts) (after : Option ℕ) (all : List Issued) (t : Turn) (made : List Issued) : Type 0 where
+pub record TurnDone (c : ℕ) (start old new : Parts) (after : Option ℕ) (all : List Issued) (t : Turn) (made : List Issued) : Type 0 where
   pub going : Going c start new (Some t.row) (all ++ made)
   pub fewer : above_count (Some t.row) new < above_count after old
   pub room : length all + length made ≤ 32
 
 pub goes_on : (c : ℕ) (start old new : Parts) (after : Option ℕ) (all : List Issued) (t : Turn) (answer : Option Issued) → Going c start old after all → rises_to old.unit.last old.unit.rows ≡ true
-    → next_turn c after old.unit.rows ≡ Some t → TurnOf c (length all) t old new answer → Went c start old new after all t (option_to_list answer)
+    → next_turn c after old.unit.rows ≡ Some t → TurnOf c (length all) t old new answer → TurnDone c start old new after all t (option_to_list answer)
 goes_on c start old new after all t answer going rises e turn =
     record {
       going = record { turned = both.1; fits = subst (λ n. Fits c n new) longer fits; wide = omega (arith, length-append all (option_to_list answer), few) };
