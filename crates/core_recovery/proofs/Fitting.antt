@@ -1,11 +1,10 @@
 -- The parts fit together after a recovery, and behind what the queue learns.
-use Rattle.std.proofs.Common.{◌≡◌, ℕ, ◌+◌, ◌<◌, ◌≤◌, Bool, true, false, cond, List, [], ◌∷◌, Option, Some, None, refl, sym, ap, ◌∙◌, subst, arith, length}
-use Rattle.std.specs.Prelude.{◌&&◌, ◌||◌, ◌==◌, not, map, filter, All, option_map, nat_le, nat_lt, count_by}
+use Rattle.std.proofs.Common.{◌≡◌, ℕ, ◌+◌, ◌<◌, ◌≤◌, Bool, true, false, cond, List, [], ◌∷◌, Option, Some, None, refl, sym, ap, ◌∙◌, subst, arith}
+use Rattle.std.specs.Prelude.{◌&&◌, map, filter, All, option_map, nat_le, nat_lt}
 use Rattle.std.proofs.lemmas.Bool.{ltb-true, lt-ltb, leb-true, le-leb, and_parts, and_from}
 use Rattle.std.proofs.lemmas.List.Elements.{All-head, All-tail, All-nil, All-filter}
 use Rattle.bpred_unit.specs.declared.predictor.Predictor.{Predictor}
 use Rattle.bpred_unit.specs.Stands.{cells_of, IsTop}
-use Rattle.lsq_core.specs.Queue as queue
 use Rattle.lsq_core.specs.Queue.{Entry, Queue}
 use Rattle.ruu_core.specs.declared.station.Station.{Station}
 use Rattle.ruu_core.specs.Window as unit
@@ -18,8 +17,8 @@ use Rattle.core_parts.specs.Addresses.{AddressList, up_to}
 use Rattle.core_parts.specs.declared.addresses.MemoryRow.{MemoryRow}
 use Rattle.core_parts.specs.declared.parts.Parts.{Parts}
 use Rattle.core_parts.specs.Fits.{Fits, Tag, IsBehind, is_memory, unit_tags, queue_tags, address_tags}
-use Rattle.core_recovery.specs.Recovery.{Squashes, SquashesAfter, learned_of}
-use Rattle.core_recovery.proofs.Learns.{Keeps, learned_all_keeps}
+use Rattle.core_recovery.specs.Recovery.{Squashes, SquashesAfter}
+use Rattle.core_recovery.proofs.Learns.{Keeps}
 
 pub top_of : (cells : Option ℕ) (row : ℕ) (rows : List unit.Row) (s : Station) → option_map (λ (r : unit.Row). r.station) (row_of row rows) ≡ Some s
     → All (λ (u : unit.Row). IsTop cells u.station.top) rows → IsTop cells s.top

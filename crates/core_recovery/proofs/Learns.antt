@@ -1,17 +1,15 @@
 -- What the queue learns of stores.
-use Rattle.std.proofs.Common.{◌≡◌, ℕ, zero, suc, ◌+◌, ◌<◌, ◌≤◌, Bool, true, false, cond, List, [], ◌∷◌, ◌++◌, Option, Some, None, refl, sym, ap, ◌∙◌, subst, arith, length, drop}
-use Rattle.std.specs.Prelude.{◌&&◌, ◌||◌, ◌==◌, not, map, filter, reverse, slice_get}
+use Rattle.std.proofs.Common.{◌≡◌, ℕ, zero, suc, ◌+◌, ◌≤◌, Bool, true, false, cond, List, [], ◌∷◌, Some, refl, sym, ap, ◌∙◌, arith, length, drop}
+use Rattle.std.specs.Prelude.{◌&&◌, ◌||◌, ◌==◌, map, filter, reverse, slice_get}
 use Rattle.std.specs.List.{list_any}
 use Rattle.std.proofs.lemmas.List.{reverse-append, length-reverse}
 use Rattle.std.proofs.lemmas.List.Folds.{list_any-append}
-use Rattle.std.proofs.lemmas.Bool.{and_parts, eqb-true}
-use Rattle.std.proofs.lemmas.Bool.Decides.{nat_tests}
 use Rattle.lsq_core.specs.Queue.{Entry, Queue, at_row, with_address, with_data, set_once, holds_store}
 use Rattle.ruu_core.specs.Window as unit
 use Rattle.ruu_core.specs.Window.{is_row, is_live}
 use Rattle.core_parts.specs.declared.addresses.MemoryRow.{MemoryRow}
 use Rattle.core_parts.specs.Fits.{Tag, is_memory, unit_tags, queue_tags, address_tags}
-use Rattle.core_parts.proofs.Lists.{same_number, or_false}
+use Rattle.core_parts.proofs.Lists.{same_number}
 use Rattle.core_recovery.specs.Recovery.{learned, learned_of, address_noted, data_noted}
 
 -- ---- tags

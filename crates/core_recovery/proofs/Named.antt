@@ -1,11 +1,10 @@
 -- The row that recovers by the unit's marks is the one that recovers in the table.
-use Rattle.std.proofs.Common.{◌≡◌, ℕ, Bool, true, false, cond, List, [], ◌∷◌, Option, Some, None, refl, sym, ap, ◌∙◌, subst, length}
+use Rattle.std.proofs.Common.{◌≡◌, ℕ, Bool, true, false, cond, List, [], ◌∷◌, Option, Some, None, refl, sym, ap, ◌∙◌, length}
 use Rattle.std.specs.Prelude.{◌&&◌, ◌||◌, ◌==◌, not}
 use Rattle.std.specs.List.{AllZip, list_any}
 use Rattle.mem_hier.specs.Replay.{greatest_fetch_of, greatest_load_of}
 use Rattle.ruu_core.specs.Window as unit
 use Rattle.ooo_table.specs.Row.{Row, is_at}
-use Rattle.ooo_table.specs.Table.{Setting}
 use Rattle.ooo_table.specs.Path.{execution}
 use Rattle.ooo_table.specs.Done.{live, written}
 use Rattle.ooo_table.specs.Recovery as table
@@ -13,12 +12,11 @@ use Rattle.ooo_table.specs.Cycle.{after_commit}
 use Rattle.ooo_table.specs.Later.{Each}
 use Rattle.ooo_table.specs.CycleLaws.{RecoversLive}
 use Rattle.ooo_table.specs.Machine.{Given, setting_of}
-use Rattle.ooo_table.specs.MachineLaws.{IsSound}
 use Rattle.ooo_table.proofs.Route.{Route, right_stands}
 use Rattle.ooo_table.proofs.CycleFacts.{route_one, live_one}
 use Rattle.ooo_table.proofs.Timely.{bounded}
 use Rattle.core_parts.specs.declared.parts.Parts.{Parts}
-use Rattle.core_parts.specs.Rows.{Placed, pick, newest_number, Lives}
+use Rattle.core_parts.specs.Rows.{pick, newest_number, Lives}
 use Rattle.core_parts.specs.Stages.{RecoversAt}
 use Rattle.core_recovery.specs.Recovery.{recovers, recovering_in}
 use Rattle.core_recovery.proofs.Least.{both}

@@ -1,5 +1,5 @@
 -- The recovery stage, over the parts: which row recovers, what a recovery leaves, and what the queue learns.
-use Rattle.std.specs.Prelude.{◌≡◌, ℕ, ◌+◌, Bool, true, false, not, List, [], ◌∷◌, reverse, option_map, Option, Some, None, ◌==◌, ◌&&◌, if◌then◌else◌}
+use Rattle.std.specs.Prelude.{◌≡◌, ℕ, ◌+◌, Bool, false, not, List, [], ◌∷◌, reverse, option_map, Option, Some, None, ◌==◌, ◌&&◌, if◌then◌else◌}
 use Rattle.bpred_unit.specs.declared.config.PredConfig.{PredConfig}
 use Rattle.bpred_unit.specs.History.{Event, Recover}
 use Rattle.bpred_unit.specs.Stands as predictor
