@@ -1,2 +1,4 @@
 pub mod Shown
 pub mod Items
+pub mod StageItems
+pub mod StageItemsLaws
