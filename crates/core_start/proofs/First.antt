@@ -1,10 +1,10 @@
 -- The parts with which a run starts fit together, and they stand for the first table.
-use Rattle.std.proofs.Common.{◌≡◌, ℕ, ◌+◌, ◌*◌, ◌^◌, ◌<◌, ◌≤◌, List, [], length, false, refl, sym, ap, ◌∙◌, subst, arith}
+use Rattle.std.proofs.Common.{◌≡◌, ℕ, ◌^◌, ◌<◌, ◌≤◌, [], length, false, refl, sym, ap, ◌∙◌, subst, arith}
 use Rattle.std.specs.Prelude.{All}
 use Rattle.std.specs.List.{AllZip}
 use Rattle.std.proofs.lemmas.List.Elements.{All-nil}
 use Rattle.sim_safe.specs.State.{State, Storage, reader_of, state_of}
-use Rattle.mem_hier.specs.Stands.{Held, references_of, last_cycle_of}
+use Rattle.mem_hier.specs.Stands.{Held, references_of}
 use Rattle.bpred_unit.specs.declared.predictor.Predictor.{Predictor}
 use Rattle.bpred_unit.specs.Stands as prediction
 use Rattle.bpred_unit.specs.Stands.{cells_of, IsTop}
@@ -24,7 +24,7 @@ use Rattle.core_parts.specs.Addresses.{AddressList}
 use Rattle.core_parts.specs.declared.parts.Parts.{Parts}
 use Rattle.core_parts.specs.Rows.{Lives, Holds, HasAddress, Waits}
 use Rattle.core_parts.specs.Fits.{Fits, HasSizes, IsInTime, HasNumbers, Agree, IsBehind, unit_tags, queue_tags, address_tags}
-use Rattle.core_parts.specs.Stands.{Stands, RowsStand, GoesOn, Acts, HistoriesStand, IsOf, PoolsStand, acting, pool_of}
+use Rattle.core_parts.specs.Stands.{Stands, RowsStand, GoesOn, Acts, HistoriesStand, PoolsStand, pool_of}
 use Rattle.core_start.specs.Start.{AreEmpty, AreFree, IsClean, IsSettled, Begins, IsGiven, Starts}
 
 -- parts of these buffers and units begin so

@@ -35,76 +35,91 @@ const BARE: HierConfig = HierConfig {
     wait: true,
 };
 
-/// A predictor by which no branch is taken.
-const NONE_TAKEN: PredConfig = PredConfig {
-    kind: PredKind::NotTaken,
-    bimod: 1,
-    l1: 1,
-    l2: 1,
-    width: 1,
-    xor: false,
-    meta: 1,
-    btb_sets: 4,
-    btb_ways: 2,
-    ras: 8,
-};
-
-/// A configuration, the address at which its run starts, and how many rows its first cycle fetches.
+/// The sizes of a configuration, the address at which its run starts, and how many rows its first cycle fetches.
 struct Row {
-    config: OooConfig,
+    /// How many rows may wait.
+    ifq: u32,
+    /// How many may be live.
+    ruu: u32,
+    /// How many loads and stores may be live.
+    lsq: u32,
+    /// How much each stage does in a cycle.
+    width: u32,
+    /// How many units each pool has.
+    units: u32,
     entry: u32,
     fetched: usize,
 }
 
-/// A configuration of so many places for waiting rows, live rows, and loads and stores, of one width for all stages, and
-/// of as many units in each pool.
-const fn config(ifq: u32, ruu: u32, lsq: u32, width: u32, units: u32) -> OooConfig {
-    OooConfig {
-        ifq,
-        decode: width,
-        issue: width,
-        commit: width,
-        ruu,
-        lsq,
-        penalty: 3,
-        alus: units,
-        mults: units,
-        ports: units,
-        in_order: false,
-        wrong_issue: true,
-    }
-}
-
 const ROWS: [Row; 5] = [
     Row {
-        config: config(4, 16, 8, 4, 2),
+        ifq: 4,
+        ruu: 16,
+        lsq: 8,
+        width: 4,
+        units: 2,
         entry: TEXT,
         fetched: 4,
     },
     // the least and the greatest
     Row {
-        config: config(1, 2, 2, 1, 1),
+        ifq: 1,
+        ruu: 2,
+        lsq: 2,
+        width: 1,
+        units: 1,
         entry: TEXT,
         fetched: 1,
     },
     Row {
-        config: config(64, 256, 256, 32, 8),
+        ifq: 64,
+        ruu: 256,
+        lsq: 256,
+        width: 32,
+        units: 8,
         entry: TEXT,
         fetched: 32,
     },
     // fewer may wait than are fetched in a cycle
     Row {
-        config: config(3, 8, 4, 8, 1),
+        ifq: 3,
+        ruu: 8,
+        lsq: 4,
+        width: 8,
+        units: 1,
         entry: TEXT,
         fetched: 3,
     },
     // a start outside of text
     Row {
-        config: config(8, 8, 8, 2, 1),
+        ifq: 8,
+        ruu: 8,
+        lsq: 8,
+        width: 2,
+        units: 1,
         entry: 0x1000_0000,
         fetched: 2,
     },
 ];
+
+impl Row {
+    fn config(&self) -> OooConfig {
+        OooConfig {
+            ifq: self.ifq,
+            decode: self.width,
+            issue: self.width,
+            commit: self.width,
+            ruu: self.ruu,
+            lsq: self.lsq,
+            penalty: 3,
+            alus: self.units,
+            mults: self.units,
+            ports: self.units,
+            in_order: false,
+            wrong_issue: true,
+        }
+    }
+}
 
 /// The program, which starts at an address.
 fn image(alloc: Global, entry: u32) -> Result<Image, OutOfMemory> {
@@ -132,15 +147,32 @@ fn state(alloc: Global, entry: u32) -> Option<Arch> {
     }
 }
 
-/// The parts of a run of that program, over a hierarchy to which one reference was made, in cycle 100.
+/// A predictor by which no branch is taken.
+fn predictor(alloc: Global) -> Result<Predictor, OutOfMemory> {
+    let config = PredConfig {
+        kind: PredKind::NotTaken,
+        bimod: 1,
+        l1: 1,
+        l2: 1,
+        width: 1,
+        xor: false,
+        meta: 1,
+        btb_sets: 4,
+        btb_ways: 2,
+        ras: 8,
+    };
+    Predictor::new(alloc, &config)
+}
+
+/// The parts of a run from that state, over a hierarchy to which one reference was made, in cycle 100.
 fn parts(alloc: Global, arch: Arch, config: &OooConfig) -> Result<Option<Parts>, OutOfMemory>
     ensures { IfOk result (λ made. IfSome made (λ parts. Fits 0 0 parts)) }
 {
-    if !config.is_allowed() || !BARE.is_allowed() || !NONE_TAKEN.is_allowed() || arch.icnt() > 0 {
+    if !config.is_allowed() || !BARE.is_allowed() || arch.icnt() > 0 {
         return Ok(None);
     }
     let mut hier = Hier::new(alloc, &BARE)?;
-    let predictor = Predictor::new(alloc, &NONE_TAKEN)?;
+    let predictor = predictor(alloc)?;
     let _latency = hier.fetch(TEXT, 100);
     Ok(Some(start(alloc, arch, config, hier, predictor)?))
 }
@@ -169,7 +201,7 @@ fn agrees(alloc: Global, row: &Row) -> bool {
     let Some(arch) = state(alloc, row.entry) else {
         return false;
     };
-    match parts(alloc, arch, &row.config) {
+    match parts(alloc, arch, &row.config()) {
         Ok(Some(parts)) => is_first(parts, row),
         _ => false,
     }
