@@ -41,7 +41,7 @@ use Rattle.core_parts.specs.Rows.{newest_number, Waits}
 use Rattle.core_parts.proofs.Lists.{map_none, map_sweep, count_sweep, length_sweep}
 use Rattle.core_issue.specs.Stage.{rules_of, shared_of, RanAll}
 use Rattle.core_issue.proofs.Sweep.{Slow, turn_cases, unissued, fetched_same, dispatched_same, waiting_same, zip_turns, queue_same, addresses_same}
-use Rattle.core_issue.proofs.Live.{fit_three}
+use Rattle.core_parts.proofs.Live.{fit_three}
 use Rattle.core_issue.proofs.Whole.{says, Done, ran_done}
 
 -- a sweep leaves what it says of rows alone

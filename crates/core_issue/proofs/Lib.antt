@@ -5,7 +5,6 @@ mod Loop
 mod Sweep
 mod Queue
 mod Pools
-mod Live
 mod Tests
 mod Step
 mod Whole

@@ -23,7 +23,7 @@ use Rattle.core_issue.specs.Turns as turns
 use Rattle.core_issue.specs.Turns.{pool_for, has_free, has_unit as has_one, is_ok, may_go}
 use Rattle.core_issue.specs.Stage.{Rules, is_ordered, main_issues, access_issues, forwards}
 use Rattle.core_issue.proofs.Queue.{answer_ok, answer_forward, clear_same, forward_same}
-use Rattle.core_issue.proofs.Live.{by_before, live_parts, have_live}
+use Rattle.core_parts.proofs.Live.{by_before, live_parts, have_live}
 
 -- the row has issued by c, where it has
 abbrev pub Marked : ℕ → Row → Type 0

@@ -33,7 +33,7 @@ use Rattle.core_issue.proofs.Next.{apart}
 use Rattle.core_issue.proofs.Sweep.{Slow, turn_cases, dispatched_same, squashed_same, live_same, queue_same}
 use Rattle.core_issue.proofs.Queue.{Above, above_less, above_last, answer_at, load_uses}
 use Rattle.core_issue.proofs.Pools.{free_same, unit_same}
-use Rattle.core_issue.proofs.Live.{Fit, none_of, live_parts, kinds_of}
+use Rattle.core_parts.proofs.Live.{Fit, none_of, live_parts, kinds_of}
 use Rattle.core_issue.proofs.Tests.{Marked, Answers, issue_same, access_same, forwarded_same}
 use Rattle.core_issue.proofs.Step.{After, after_left, step_turn}
 

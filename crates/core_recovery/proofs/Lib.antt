@@ -1,4 +1,8 @@
 mod Least
 mod Learns
 mod Fitting
-mod Named
+pub mod Named
+mod Behind
+mod Held
+mod Known
+mod Stand

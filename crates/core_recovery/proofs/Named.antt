@@ -56,14 +56,14 @@ module _ (g : Given) (c : ℕ) where
   or_none (Some a) = refl
   or_none None = refl
 
-  is_right : (r : Row) → table.recovers (setting_of g) c r ≡ true → r.fetched.right ≡ true
+  pub is_right : (r : Row) → table.recovers (setting_of g) c r ≡ true → r.fetched.right ≡ true
   is_right r h = by_value r.fetched.right h
     where
       by_value : (b : Bool) → (b && not (execution (setting_of g) r).stops && not (r.fetched.predicted == (execution (setting_of g) r).next) && is_at c (written (setting_of g) r)) ≡ true → b ≡ true
       by_value true h = refl
       by_value false h = absurd cc
 
-  named : (rows : List Row) (us : List unit.Row) → Each (Route (setting_of g) c) rows → Each (λ _. RecoversLive (setting_of g) c) rows → AllZip (Lives g) us (pick live rows)
+  pub named : (rows : List Row) (us : List unit.Row) → Each (Route (setting_of g) c) rows → Each (λ _. RecoversLive (setting_of g) c) rows → AllZip (Lives g) us (pick live rows)
       → recovering_in c us ≡ newest_number (table.recovers (setting_of g) c) rows
   named [] [] route lives z = refl
   named [] (u ∷ us) route lives z = absurd z

@@ -21,7 +21,9 @@ use Rattle.ooo_table.proofs.Steps.{Kind, made_for}
 use Rattle.ooo_table.proofs.Times.{Gone, Times}
 use Rattle.ooo_table.proofs.CycleFacts.{facts_two, facts_three, times_two, times_three}
 use Rattle.core_parts.specs.Rows.{pick, Placed, Lives}
-use Rattle.core_issue.proofs.Next.{apart}
+
+apart : {b : Bool} → b ≡ true → b ≡ false → ⊥
+apart e f = cc
 
 pub none_of : {A : Type 0} (m : Option A) → is_none m ≡ true → m ≡ None
 none_of None h = refl
