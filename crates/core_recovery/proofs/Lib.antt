@@ -1,4 +1,4 @@
-mod Least
+pub mod Least
 mod Learns
 mod Fitting
 pub mod Named

@@ -126,6 +126,13 @@ impl Front {
         }
     }
 
+    /// The number of the next row, which is how many rows were fetched so far.
+    pub fn next_number(&self) -> u64
+        ensures { result ≡ self.now.row }
+    {
+        self.row
+    }
+
     /// Takes the oldest row out.
     pub fn pop(&mut self) -> FetchRow
         requires { 0 < length self.old.rows }

@@ -1,0 +1,27 @@
+use Rattle.std.proofs.Common.{◌<◌, None, sym, ◌∙◌, subst}
+use Rattle.core_recovery.proofs.Named.{recovers_at}
+use Rattle.watched_stages.specs.Watched.{Shows, completions_above, squashes_behind}
+use Rattle.watched_stages.proofs.Showing.{shows_both, shows_first}
+use Rattle.watched_stages.proofs.Recoveries.{recovering_below, watched_recovery}
+use Rattle.watched_stages.proofs.recovering.recover.Goals as goal
+
+pub show_squashes-requires : goal.show_squashes-requires
+show_squashes-requires g c =
+    λ row e.
+    subst (λ n. row < n) (sym c.next_number-next.ensures)
+    (recovering_below c.args.cycle c.args.parts.now.unit.last c.args.parts.now.front c.args.parts.now.unit.rows row c.room-room.ensures.rises c.requires.agree.behind (sym c.recover-behind.ensures.row ∙ e))
+
+pub returns-in-Ok-clause-recovers : goal.returns-in-Ok-clause-recovers
+returns-in-Ok-clause-recovers g c =
+    watched_recovery g.W.Watch.took g.W.Watch.cut c.args.cycle c.args.parts.now c.recover-behind.new.parts c.recover-behind.result c.args.watch.now c.show_squashes.new.watch c.show_squashes.result
+    (recovers_at c.args.cycle c.args.parts.now c.recover-behind.result c.recover-behind.ensures.row) c.recover-behind.ensures.stands
+    (shows_both g.W.Watch.took g.W.Watch.cut (completions_above c.args.cycle None c.args.parts.now.unit.rows) (squashes_behind c.args.cycle c.recover-behind.result c.args.parts.now.front.row) c.args.watch.now c.show_completions.new.watch c.show_squashes.new.watch c.show_squashes.result
+    c.in-Ok.ensures.took
+    (subst (λ n. Shows g.W.Watch.took g.W.Watch.cut (squashes_behind c.args.cycle c.recover-behind.result n) c.show_completions.new.watch c.show_squashes.new.watch c.show_squashes.result) c.next_number-next.ensures c.show_squashes.ensures.took))
+
+pub returns-in-Err-clause-recovers : goal.returns-in-Err-clause-recovers
+returns-in-Err-clause-recovers g c =
+    watched_recovery g.W.Watch.took g.W.Watch.cut c.args.cycle c.args.parts.now c.recover-behind-in-Err.new.parts c.recover-behind-in-Err.result c.args.watch.now c.show_completions.new.watch _
+    (recovers_at c.args.cycle c.args.parts.now c.recover-behind-in-Err.result c.recover-behind-in-Err.ensures.row) c.recover-behind-in-Err.ensures.stands
+    (shows_first g.W.Watch.took g.W.Watch.cut (completions_above c.args.cycle None c.args.parts.now.unit.rows) (squashes_behind c.args.cycle c.recover-behind-in-Err.result c.args.parts.now.front.row) c.args.watch.now c.show_completions.new.watch
+    c.in-Err.ensures.took)
