@@ -1,11 +1,9 @@
 -- Turns of the commit stage over the parts are turns of the table, and the unit tells when no row commits any more.
-use Rattle.std.proofs.Common.{◌≡◌, ℕ, suc, ◌+◌, ◌≤◌, Bool, true, false, cond, List, [], ◌∷◌, ◌++◌, Option, Some, None, refl, sym, ap, ◌∙◌, subst, arith, length}
+use Rattle.std.proofs.Common.{◌≡◌, ℕ, ◌+◌, Bool, true, false, cond, List, [], ◌∷◌, ◌++◌, Option, Some, None, refl, sym, ap, ◌∙◌, subst, arith, length}
 use Rattle.std.specs.Prelude.{◌&&◌, ◌==◌, option_map, is_some, is_none, count_by}
-use Rattle.std.specs.List.{AllZip}
 use Rattle.std.proofs.lemmas.Bool.{and_parts}
 use Rattle.std.proofs.lemmas.Bool.Decides.{nat_tests}
-use Rattle.ruu_core.specs.declared.station.Station.{Station}
-use Rattle.ooo_table.specs.Row.{Row, MemoryAccess, is_at, is_before, returned, sweep}
+use Rattle.ooo_table.specs.Row.{Row, MemoryAccess, is_at, is_before, returned}
 use Rattle.ooo_table.specs.Execution.{unit_latency}
 use Rattle.ooo_table.specs.Table.{Setting}
 use Rattle.ooo_table.specs.Path.{execution, loads, stores}
@@ -20,10 +18,7 @@ use Rattle.ooo_table.specs.MachineLaws.{IsSound}
 use Rattle.ooo_table.proofs.Counts.{one, count_cons}
 use Rattle.ooo_table.proofs.Recovered.{untouched_at}
 use Rattle.ooo_table.proofs.RowFacts.{facts_table}
-use Rattle.core_parts.specs.declared.parts.Parts.{Parts}
 use Rattle.core_parts.specs.Rows.{pick, Lives}
-use Rattle.core_parts.specs.Stands.{Stands}
-use Rattle.core_parts.specs.Stages.{Committing, CommitsAs}
 use Rattle.core_parts.proofs.Lists.{zip_length, pick_length}
 use Rattle.core_watch.specs.StageItemsLaws.{turned, commits_now, CommitsNext}
 use Rattle.core_watch.proofs.CommitTurns.{Uncommitted, uncommitted, now_counted, turn_commits, turn_stays, commit_is_shown, commits_are_over}

@@ -1,37 +1,33 @@
 -- A row that writes back or returns in a cycle, and wasn't squashed before, is live behind the commits of the cycle.
-use Rattle.std.proofs.Common.{◌≡◌, ℕ, zero, suc, ◌+◌, ◌<◌, ◌≤◌, Bool, true, false, cond, List, [], ◌∷◌, ◌++◌, Option, Some, None, refl, sym, ap, ◌∙◌, subst, arith, length, append-nil}
-use Rattle.std.specs.Prelude.{◌&&◌, not, option_map, is_some, is_none}
+use Rattle.std.proofs.Common.{◌≡◌, ℕ, suc, ◌+◌, ◌<◌, ◌≤◌, Bool, true, false, cond, List, [], ◌∷◌, ◌++◌, Option, Some, None, refl, sym, ap, ◌∙◌, arith, length, append-nil}
+use Rattle.std.specs.Prelude.{◌&&◌, option_map, is_some, is_none}
 use Rattle.std.specs.List.{AllZip, list_any}
 use Rattle.std.proofs.lemmas.Bool.{cond_both, and_parts, eqb-true, ltb-true, lt-ltb}
-use Rattle.bpred_unit.specs.declared.predictor.Look.{Look}
 use Rattle.mem_hier.specs.Replay.{Reference}
 use Rattle.ruu_core.specs.Window as unit
 use Rattle.ooo_table.specs.declared.event.Mark.TheVariants as mark
 use Rattle.ooo_table.specs.declared.event.Event.{Event}
-use Rattle.ooo_table.specs.Row.{Fetched, Row, MemoryAccess, is_at, is_before, returned, sweep}
+use Rattle.ooo_table.specs.Row.{Row, MemoryAccess, is_at, is_before, returned}
 use Rattle.ooo_table.specs.Execution.{MemoryUse, NoMemory, LoadFrom, StoreTo, is_load, is_store, unit_latency}
-use Rattle.ooo_table.specs.Table.{Setting, NextFetch}
-use Rattle.ooo_table.specs.Path.{execution, execution_of, loads, stores}
+use Rattle.ooo_table.specs.Table.{Setting}
+use Rattle.ooo_table.specs.Path.{execution, loads, stores}
 use Rattle.ooo_table.specs.Done.{live, written, finished, have_produced, done_before}
 use Rattle.ooo_table.specs.Commit.{commits, commit_row}
 use Rattle.ooo_table.specs.Recovery.{recovers, squash_row}
 use Rattle.ooo_table.specs.Issue.{issues, accesses, access_of, issue_row}
-use Rattle.ooo_table.specs.Dispatch.{dispatches, dispatch_row}
+use Rattle.ooo_table.specs.Dispatch.{dispatches}
 use Rattle.ooo_table.specs.Cycle.{table, after_commit}
-use Rattle.ooo_table.specs.Ends.{happened}
 use Rattle.ooo_table.specs.Events.{by_row, event_at}
 use Rattle.ooo_table.specs.Later.{Each, Where}
 use Rattle.ooo_table.specs.Legal.{Before, CommitAllowed}
 use Rattle.ooo_table.specs.CycleLaws.{RowFacts, Comes}
 use Rattle.ooo_table.specs.Machine.{Given, setting_of}
-use Rattle.ooo_table.specs.MachineLaws.{IsSound}
 use Rattle.ooo_table.proofs.CycleFacts.{facts_one, comes_one}
 use Rattle.ooo_table.proofs.Kept.{Kept, kept_table}
 use Rattle.ooo_table.proofs.Quiet.{Own, own_commit, each_turn, both_table}
-use Rattle.ooo_table.proofs.RowFacts.{changed_commit, changed_squash, changed_issue, changed_dispatch}
 use Rattle.core_parts.specs.Rows.{Placed, pick, Lives}
 use Rattle.core_watch.proofs.Stages.{when, written_at, written_when, written_tests}
-use Rattle.core_events.specs.Completions.{completed_by, completed_in, ShowsCompletions}
+use Rattle.core_events.specs.Completions.{completed_in, ShowsCompletions}
 
 at_not_below : (x c : ℕ) (m : Option ℕ) → x ≤ c → is_at c m ≡ true → is_before x m ≡ true → ⊥
 at_not_below x c None le h k = absurd cc

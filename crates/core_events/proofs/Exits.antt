@@ -1,5 +1,5 @@
 -- A step ends the program exactly where its record notes an exit.
-use Rattle.std.proofs.Common.{◌≡◌, ℕ, Bool, true, false, cond, List, [], ◌∷◌, ◌++◌, Option, Some, None, refl, sym, ap, ◌∙◌, subst}
+use Rattle.std.proofs.Common.{◌≡◌, ℕ, Bool, true, false, cond, ◌∷◌, Option, Some, None, refl, sym, ap, ◌∙◌, subst}
 use Rattle.std.specs.Prelude.{Result, Ok, Err, ◌&&◌, map, is_some, slice_get}
 use Rattle.ecoff_load.specs.Fetch.{fetch}
 use Rattle.pisa_isa.specs.declared.instr.Instr.{Instr}
@@ -13,16 +13,16 @@ use Rattle.sim_safe.specs.declared.record.CommitRecord.{CommitRecord}
 use Rattle.sim_safe.specs.Call.{comparisons, mismatch, block_in_text}
 use Rattle.sim_safe.specs.Record.{item_of}
 use Rattle.sim_safe.specs.State.{State, range_of}
-use Rattle.sim_safe.specs.Step.{Outcome, Next, Halt, step_of, step_running, step_fetched, step_decoded, step_at, is_call, called, executed, unrecorded, unrecorded_as, exit_asked, replayed, replayed_next, unless}
+use Rattle.sim_safe.specs.Step.{Outcome, Next, Halt, step_of, step_running, step_fetched, step_decoded, step_at, is_call, called, executed, unrecorded, unrecorded_as, exit_asked, replayed_next, unless}
 use Rattle.ruu_core.specs.declared.station.Station.{Station}
 use Rattle.ooo_table.specs.declared.event.Mark.TheVariants as mark
 use Rattle.ooo_table.specs.Row.{Row}
 use Rattle.ooo_table.specs.Execution.{Execution}
 use Rattle.ooo_table.specs.Path.{execution, execution_of, is_exit}
-use Rattle.ooo_table.specs.Machine.{Given, setting_of, done_as}
+use Rattle.ooo_table.specs.Machine.{Given, setting_of}
 use Rattle.ooo_table.specs.RunLaws.{recorded_by}
 use Rattle.core_parts.specs.Rows.{Describes, Did}
-use Rattle.core_watch.specs.Shown.{Shown, Happened, Committed, commit_of}
+use Rattle.core_watch.specs.Shown.{Happened, Committed, commit_of}
 use Rattle.core_watch.specs.StageItemsLaws.{shown_commit}
 use Rattle.core_events.specs.Exits.{exit_noted, exit_by, CommitIsOf}
 

@@ -1,5 +1,5 @@
 -- Each squash is of a recovery of a row before, when all rows before were there.
-use Rattle.std.proofs.Common.{◌≡◌, ℕ, zero, suc, ◌+◌, ◌<◌, ◌≤◌, Bool, true, false, List, [], ◌∷◌, Option, Some, None, refl, sym, ap, ◌∙◌, subst, arith, inl, inr}
+use Rattle.std.proofs.Common.{◌≡◌, ℕ, zero, suc, ◌+◌, ◌<◌, Bool, true, false, List, [], ◌∷◌, Option, Some, None, refl, sym, ap, ◌∙◌, subst, inl, inr}
 use Rattle.std.specs.Prelude.{◌&&◌, ◌||◌, ◌⊎◌, is_none}
 use Rattle.std.specs.List.{AllZip, list_any}
 use Rattle.std.proofs.lemmas.Bool.{cond_both, and_parts}
@@ -9,11 +9,11 @@ use Rattle.ooo_table.specs.Execution.{unit_latency}
 use Rattle.ooo_table.specs.Table.{Setting, Table}
 use Rattle.ooo_table.specs.Path.{execution, mispredicted}
 use Rattle.ooo_table.specs.Done.{written}
-use Rattle.ooo_table.specs.Commit.{commit, commits, commit_row}
-use Rattle.ooo_table.specs.Recovery.{recover, recovers, squash_row}
+use Rattle.ooo_table.specs.Commit.{commits, commit_row}
+use Rattle.ooo_table.specs.Recovery.{recovers, squash_row}
 use Rattle.ooo_table.specs.References.{store_references}
-use Rattle.ooo_table.specs.Issue.{issue, issues, accesses, access_of, issue_row}
-use Rattle.ooo_table.specs.Dispatch.{dispatch, dispatches, dispatch_row}
+use Rattle.ooo_table.specs.Issue.{issues, accesses, access_of, issue_row}
+use Rattle.ooo_table.specs.Dispatch.{dispatches, dispatch_row}
 use Rattle.ooo_table.specs.Fetch.{may_fetch, fetch_one, fetch_up_to}
 use Rattle.ooo_table.specs.Cycle.{table, after_commit, after_recover, after_issue, after_dispatch}
 use Rattle.ooo_table.specs.Later.{Each, Where, Past}

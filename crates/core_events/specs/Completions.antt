@@ -1,5 +1,5 @@
 -- The write-backs and returns of a cycle, by the unit.
-use Rattle.std.specs.Prelude.{◌≡◌, ℕ, false, List, [], ◌∷◌, ◌++◌}
+use Rattle.std.specs.Prelude.{◌≡◌, ℕ, List, [], ◌∷◌, ◌++◌}
 use Rattle.std.specs.List.{AllZip}
 use Rattle.ruu_core.specs.Window as unit
 use Rattle.ooo_table.specs.declared.event.Mark.TheVariants as mark
