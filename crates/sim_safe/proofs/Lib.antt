@@ -16,3 +16,8 @@ pub mod Replays
 pub mod Recorded
 pub mod Decoding
 pub mod Recorders
+pub mod GoingOn
+pub mod Emitting
+pub mod Skips
+pub mod Resuming
+pub mod TextStays

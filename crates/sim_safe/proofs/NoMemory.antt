@@ -4,6 +4,8 @@ use Rattle.std.specs.Prelude.{false, Result, Ok, Err, IfOk}
 use Rattle.pisa_isa.specs.declared.instr.Op.{Op}
 use Rattle.pisa_isa.specs.declared.instr.Op.TheVariants as op
 use Rattle.pisa_isa.specs.declared.instr.Instr.{Instr}
+use Rattle.pisa_isa.specs.contracts.instr.Op.{the_type}
+use denote.Enum.Bare.{sameb}
 use Rattle.pisa_step.specs.declared.cause.Cause.{Cause}
 use Rattle.pisa_step.specs.declared.changes.Changes.{Changes}
 use Rattle.pisa_step.specs.Effect.{effect_of}
@@ -12,6 +14,10 @@ use Rattle.paged_mem.specs.Memory.{Pages, IsReserved, Meets}
 use Rattle.sim_safe.specs.State.{State, range_of}
 use Rattle.sim_safe.specs.Step.{Outcome, Next, Halt, is_call, executed, step_at, step_of, StoreHeld, TakesNoMemory}
 use Rattle.sim_safe.proofs.Serving.{blocks_kept}
+
+-- an operation that isn't the same as a system call
+pub not_syscall : (o : Op) → false ≡ sameb the_type o op.Syscall → o ≢ op.Syscall
+not_syscall o h e = let k : false ≡ sameb the_type op.Syscall op.Syscall = subst (λ (x : Op). false ≡ sameb the_type x op.Syscall) e h in cc
 
 pub no_call : (o : Op) → o ≢ op.Syscall → is_call o ≡ false
 no_call op.Syscall h = absurd (h refl)

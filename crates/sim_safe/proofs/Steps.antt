@@ -70,17 +70,17 @@ items_one : (trace : Trace) (t u : State) (r : CommitRecord) → step_of trace t
 unfolding items_of
 items_one trace t u r e = rw e refl
 
-items_halt : (trace : Trace) (k : ℕ) (t : State) (why : Cause) → step_of trace t ≡ Halt why → items_of trace k t ≡ []
+pub items_halt : (trace : Trace) (k : ℕ) (t : State) (why : Cause) → step_of trace t ≡ Halt why → items_of trace k t ≡ []
 unfolding items_of
 items_halt trace zero t why e = refl
 items_halt trace (suc k) t why e = rw e refl
 
-after_halt : (trace : Trace) (k : ℕ) (t : State) (why : Cause) → step_of trace t ≡ Halt why → after trace k t ≡ t
+pub after_halt : (trace : Trace) (k : ℕ) (t : State) (why : Cause) → step_of trace t ≡ Halt why → after trace k t ≡ t
 unfolding after
 after_halt trace zero t why e = refl
 after_halt trace (suc k) t why e = rw e refl
 
-end_halt : (trace : Trace) (k : ℕ) (t : State) (why : Cause) → 0 < k → step_of trace t ≡ Halt why → end_from trace k t ≡ ends.Stop why
+pub end_halt : (trace : Trace) (k : ℕ) (t : State) (why : Cause) → 0 < k → step_of trace t ≡ Halt why → end_from trace k t ≡ ends.Stop why
 unfolding end_from
 end_halt trace zero t why h e = absurd (omega arith)
 end_halt trace (suc k) t why h e = rw e refl
@@ -101,7 +101,7 @@ after_stop trace n m s t why l h e =
     let z : m ≡ n + (m - n) = omega arith in
     sym (ap (λ x. after trace x s) z ∙ leads_after trace n (m - n) s t l.leads ∙ after_halt trace (m - n) t why (sym e))
 
-end_of_from : (trace : Trace) (n : ℕ) (s : State) → 0 < n → end_of trace n s ≡ end_from trace n s
+pub end_of_from : (trace : Trace) (n : ℕ) (s : State) → 0 < n → end_of trace n s ≡ end_from trace n s
 end_of_from trace zero s h = absurd (omega arith)
 end_of_from trace (suc n) s h = refl
 

@@ -1,5 +1,5 @@
 -- The commit text: a line for each instruction that is done; and the output of a run.
-use Rattle.std.specs.Prelude.{◌≡◌, ◌++◌, ℕ, List, [], ◌∷◌, length, Option, Some, None, codes, decimal}
+use Rattle.std.specs.Prelude.{◌≡◌, ◌++◌, ◌-◌, ℕ, List, [], ◌∷◌, length, take, drop, Option, Some, None, codes, decimal}
 use Rattle.std.specs.List.{flat_map}
 use Rattle.std.proofs.Common.{sym, ◌∙◌, append_assoc, append-nil}
 use Rattle.ss_base.specs.Text.{hex8, hex_bytes}
@@ -36,6 +36,18 @@ block_bytes block = block.bytes
 -- the bytes of them
 abbrev pub output_of : Item → List ℕ
 output_of i = flat_map block_bytes (blocks_of i)
+
+-- the bytes that a recorded call emits
+abbrev pub record_output : Record → List ℕ
+record_output r = flat_map block_bytes (blocks_by r.kind (Some r))
+
+-- the bytes that recorded calls emit, in order
+abbrev pub emitted_by : List Record → List ℕ
+emitted_by records = flat_map record_output records
+
+-- the records from a number on and before another one
+abbrev pub records_between : ℕ → ℕ → List Record → List Record
+records_between from to records = take (to - from) (drop from records)
 
 -- ---- lines
 

@@ -1,5 +1,5 @@
 -- Laws of steps and of recordings.
-use Rattle.std.specs.Prelude.{◌≡◌, ◌+◌, ◌<◌, ◌≤◌, ℕ, List, length}
+use Rattle.std.specs.Prelude.{◌≡◌, ◌+◌, ◌++◌, ◌<◌, ◌≤◌, ℕ, List, length}
 use Rattle.pisa_step.specs.declared.cause.Cause.TheVariants as cause
 use Rattle.event_trace.specs.declared.trace.Record.{Record}
 use Rattle.event_trace.specs.declared.trace.Trace.{Trace}
@@ -8,6 +8,7 @@ use Rattle.sim_safe.specs.declared.observer.RunEnd.{RunEnd}
 use Rattle.sim_safe.specs.declared.observer.RunEnd.TheVariants as ends
 use Rattle.sim_safe.specs.State.{State}
 use Rattle.sim_safe.specs.Step.{Outcome, Next, Halt}
+use Rattle.sim_safe.specs.Run.{items_of, after, end_of}
 
 -- what each step that is done keeps
 pub record KeepsOn (s t : State) : Type 0 where
@@ -33,3 +34,10 @@ IsGrown t u = (more : List Record) × (u ≡ with_more t more)
 -- a run ends since no record is left for a call
 abbrev pub StopsForRecord : RunEnd → Type 0
 StopsForRecord e = (used : ℕ) × (e ≡ ends.Stop (cause.TraceEnd used))
+
+-- a run of k + n steps is one of k steps, and from the state that it leaves one of n
+pub record GoesOn (trace : Trace) (k n : ℕ) (s : State) : Type 0 where
+  pub items : items_of trace (k + n) s ≡ items_of trace k s ++ items_of trace n (after trace k s)
+  pub state : after trace (k + n) s ≡ after trace n (after trace k s)
+  -- with no further step the end is that of the first k
+  pub end : 0 < n → end_of trace (k + n) s ≡ end_of trace n (after trace k s)

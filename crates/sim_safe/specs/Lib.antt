@@ -10,6 +10,7 @@ pub mod Run
 pub mod Recording
 pub mod Observed
 pub mod Advance
+pub mod Skip
 pub mod Statistics
 pub mod Ends
 pub mod Decoded

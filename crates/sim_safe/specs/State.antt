@@ -40,6 +40,21 @@ reader_of m = record { regs = slice_index (0 ∷ m.regs); hi = m.hi; lo = m.lo; 
 abbrev pub state_of : Storage → State
 state_of m = record { pc = m.pc; reads = reader_of m; icnt = m.icnt; used = m.used; ended = m.ended; text = m.text }
 
+-- the state of exactly these values; the byte order is the text's
+abbrev pub state_with : Text → Pages → List ℕ → ℕ → ℕ → ℕ → ℕ → ℕ → Option ℕ → State
+state_with text pages regs hi lo pc icnt used ended = record {
+  pc = pc;
+  reads = record { regs = slice_index regs; hi = hi; lo = lo; bytes = byte_of pages; big = text.big };
+  icnt = icnt;
+  used = used;
+  ended = ended;
+  text = text;
+}
+
+-- each byte of a text stands at its place in memory
+abbrev pub HoldsText : (ℕ → ℕ) → Text → Type 0
+HoldsText memory text = (k : ℕ) → k < length text.bytes → memory (text.start + k) ≡ slice_index text.bytes k
+
 -- the addresses of the text
 abbrev pub range_of : Text → TextRange
 range_of text = record { start = text.start; end = text.start + length text.bytes }

@@ -1,7 +1,8 @@
 //! The state of the machine, and what instructions read and write of it.
-ghost use Rattle.std.specs.Prelude.{◌≡◌, ◌+◌, ◌≤◌, ◌^◌, ℕ, length, OnOk, IsOk};
+ghost use Rattle.std.specs.Prelude.{◌≡◌, ◌+◌, ◌≤◌, ◌^◌, ◌∷◌, ℕ, length, slice_index, OnOk, IsOk};
 ghost use Rattle.paged_mem.specs.Memory.{IsReserved, IsRangeReserved};
 ghost use Rattle.std.proofs.Common.{◌∙◌, sym, refl};
+ghost use Rattle.ecoff_load.specs.Object.{IsText};
 ghost use Rattle.pisa_step.specs.declared.changes.TextRange.{TextRange};
 ghost use Rattle.pisa_step.specs.Memory.{meets};
 ghost use Rattle.pisa_step.specs.Reader.{with_bytes};
@@ -28,7 +29,8 @@ pub struct Arch {
     pub(crate) used: u32,
     pub(crate) ended: Option<u32>,
     pub(crate) text: Text,
-    /// What each instruction of the text is, None where its words code none.
+    /// What each instruction of the text is, None where its words code none. A step decodes one that
+    /// isn't in the list.
     pub(crate) instrs: Vec<Option<Instr>>,
 }
 
@@ -72,11 +74,22 @@ impl Arch {
         self.ended
     }
 
-    /// The program's text.
+    /// The program's text, as an object brought it.
     pub fn text(&self) -> &Text
-        ensures { result.now ≡ self.now.text }
+        ensures same { result.now ≡ self.now.text }
+        ensures fits { IsText self.now.text }
     {
         &self.text
+    }
+
+    /// The 32 registers.
+    pub fn registers(&self) -> [u32; 32]
+        ensures all { result ≡ 0 ∷ self.now.regs }
+        ensures reads { slice_index result ≡ (reader_of self.now).regs }
+    {
+        let mut all = [0; 32];
+        all[1..].copy_from_slice(&self.regs);
+        all
     }
 
     /// The memory. The text can be read in it.

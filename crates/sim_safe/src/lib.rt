@@ -6,6 +6,7 @@
 //! world answers the system calls, and leaves the trace over which `run` does it again. After a
 //! fault both leave the state after the steps that were done, and those of `record` are the first
 //! steps of the recording without a fault.
+//! `skip` does many steps and makes no records, and `resume` gives a machine a state.
 //! `commit_line`, `push_end` and `Statistics` give the texts and counts of a run.
 #![tactic(auto)]
 
@@ -19,6 +20,8 @@ mod observer;
 mod peek;
 mod record;
 mod recording;
+mod resume;
+mod skip;
 mod start;
 mod statistics;
 mod step;
@@ -26,7 +29,10 @@ mod step;
 pub use arch::Arch;
 pub use commit::{commit_line, emitted};
 pub use ends::push_end;
-pub use laws::{full_recordings_stop, recordings_add_records, steps_keep};
+pub use laws::{
+    full_recordings_stop, recordings_add_records, runs_emit_by_records, runs_go_on, steps_keep,
+    text_stays,
+};
 pub use observer::{Meaning, Observer, RunEnd, RunFault};
 pub use record::{CallNote, CommitRecord, Peek, Stepped};
 pub use recording::RecordEnd;

@@ -1,8 +1,8 @@
 //! Runs that are recorded: each call that finds no record left is answered by the closed world.
-ghost use Rattle.std.specs.Prelude.{◌≡◌, ◌+◌, ◌^◌, ◌≤◌, ℕ, List, ◌∷◌, true, slice_index, IfOk};
+ghost use Rattle.std.specs.Prelude.{◌≡◌, ◌+◌, ◌^◌, ◌≤◌, ℕ, List, ◌∷◌, true, IfOk};
 ghost use Rattle.paged_mem.specs.Memory.{IsReserved};
 ghost use Rattle.event_trace.specs.Recorder.{next_count};
-ghost use Rattle.sim_safe.specs.State.{state_of, reader_of};
+ghost use Rattle.sim_safe.specs.State.{state_of};
 ghost use Rattle.sim_safe.specs.Record.{Item, IsRunTrace};
 ghost use Rattle.sim_safe.specs.Observed.{RunCounts, RunMemory, RunTook};
 ghost use Rattle.sim_safe.specs.Recording.{is_trace_end, is_end_of_trace, wants_record, AreRecorded, Prepares, Records, RecordState};
@@ -43,15 +43,6 @@ fn wants(peek: Peek) -> bool
 }
 
 impl Arch {
-    /// The 32 registers.
-    fn registers(&self) -> [u32; 32]
-        ensures { slice_index result ≡ (reader_of self.now).regs }
-    {
-        let mut all = [0; 32];
-        all[1..].copy_from_slice(&self.regs);
-        all
-    }
-
     /// Has the next step's call recorded, where the trace has no record for it. False where the
     /// trace is full. The recorder is then as it was, and so it is where memory runs out.
     #[tactic(auto, using(crate::proofs::Recorded::ready_without, crate::proofs::Recorded::ready_with, crate::proofs::Recorded::takes_file))]

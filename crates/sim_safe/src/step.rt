@@ -1,5 +1,5 @@
 //! One step of the machine.
-ghost use Rattle.std.specs.Prelude.{◌≡◌, ◌≢◌, ◌+◌, ◌^◌, ◌<◌, ◌≤◌, ℕ, length, Some, OnOk, IsOk, IfOk, MatchResult, MatchOption, None};
+ghost use Rattle.std.specs.Prelude.{◌≡◌, ◌≢◌, ◌+◌, ◌^◌, ◌<◌, ◌≤◌, ℕ, length, Some, OnOk, IsOk, IfOk, IfSome, MatchResult, None};
 ghost use Rattle.std.specs.Option.{ForSome};
 ghost use Rattle.pisa_isa.specs.declared.instr.Op.TheVariants as op;
 ghost use Rattle.ecoff_load.specs.Fetch.{fetch};
@@ -17,22 +17,39 @@ use crate::arch::Arch;
 use crate::record::{CommitRecord, Progress, Stepped};
 use arrayvec::ArrayVec;
 use event_trace::Trace;
-use pisa_isa::{Instr, Op};
+use pisa_isa::{Instr, Op, decode};
 use pisa_step::{Cause, Changes, MemWrite, apply, effect};
 use ss_base::OutOfMemory;
 
 impl Arch {
-    /// What stands at the next address: no instruction, words that code none, or an instruction.
+    /// What stands at the next address where it is decoded: an instruction, or words that code none.
     #[inline(always)]
     fn next_decoded(&self) -> Option<&Option<Instr>>
-        ensures { MatchOption result (fetch self.now.text self.now.pc ≡ None)
-            (λ found. (words : ℕ × ℕ) × (fetch self.now.text self.now.pc ≡ Some words) × (found.now ≡ decoded words.0 words.1)) }
+        ensures { IfSome result (λ found. (words : ℕ × ℕ) × (fetch self.now.text self.now.pc ≡ Some words) × (found.now ≡ decoded words.0 words.1)) }
     {
         let start = self.text.start;
         if self.pc < start || (self.pc - start) % 8 != 0 {
             return None;
         }
         self.instrs.as_slice().get(((self.pc - start) / 8) as usize)
+    }
+
+    /// The next instruction, of the words of the text, or why there is none.
+    #[tactic(auto, unfolding(crate::specs::Step::step_of))]
+    fn decode_next(&self) -> Result<Instr, Cause>
+        requires { self.now.ended ≡ None }
+        ensures step { MatchResult result
+            (λ i. (trace : Trace) → step_of trace (state_of self.now) ≡ step_at trace (state_of self.now) i)
+            (λ why. (trace : Trace) → step_of trace (state_of self.now) ≡ Halt why) }
+        ensures formed { IfOk result IsWellFormed }
+    {
+        let Some((first, second)) = self.text.at(self.pc) else {
+            return Err(Cause::BadFetch);
+        };
+        match decode(first, second) {
+            Ok(instr) => Ok(instr),
+            Err(_) => Err(Cause::Illegal),
+        }
     }
 
     /// The next instruction, or why there is none.
@@ -48,15 +65,15 @@ impl Arch {
             return Err(Cause::Exited { code });
         }
         match self.next_decoded() {
-            None => Err(Cause::BadFetch),
-            Some(None) => Err(Cause::Illegal),
             Some(Some(instr)) => Ok(*instr),
+            Some(None) => Err(Cause::Illegal),
+            None => self.decode_next(),
         }
     }
 
     /// Reserves the pages that an instruction writes, where they aren't reserved.
     #[inline(always)]
-    fn reserve_for(&mut self, e: &Changes) -> Result<(), OutOfMemory>
+    pub(crate) fn reserve_for(&mut self, e: &Changes) -> Result<(), OutOfMemory>
         requires { ForSome e.now.mem (λ w. w.addr + length w.bytes.items ≤ 2 ^ 32) }
         ensures state { state_of self.new ≡ state_of self.old }
         ensures kept { (number : ℕ) → IsReserved self.old.pages number → IsReserved self.new.pages number }
