@@ -1,5 +1,5 @@
 -- What the queue knows of stores after it learned is what is known by the cycle.
-use Rattle.std.proofs.Common.{◌≡◌, ℕ, suc, ◌+◌, ◌<◌, ◌≤◌, Bool, true, false, cond, List, [], ◌∷◌, ◌++◌, Option, Some, None, refl, sym, ap, ◌∙◌, subst, arith, length, append_assoc}
+use Rattle.std.proofs.Common.{◌≡◌, ℕ, suc, ◌<◌, ◌≤◌, Bool, true, false, cond, List, [], ◌∷◌, ◌++◌, Option, Some, None, refl, sym, ap, ◌∙◌, subst, arith, length, append_assoc}
 use Rattle.std.specs.Prelude.{◌&&◌, ◌==◌, is_some, reverse}
 use Rattle.std.specs.Option.{option_and_then}
 use Rattle.std.specs.List.{AllZip}
@@ -236,6 +236,17 @@ module _ (g : Given) (c : ℕ) where
   knows whole [] ys [] (x ∷ xs) q says is from z z' = absurd z'
   knows whole (r ∷ older) ys es xs q says is from z z' = by_case (in_queue set r) refl es xs is z z' (λ ys es xs. knows whole older ys es xs q says.1)
     where
+      -- the row's own entry learns last
+      with_turn : (e : Entry) (x : MemoryRow) (xs : List MemoryRow) (k : Knows whole older (ys ++ (e ∷ [])) xs q)
+          → (e' : Entry) × ((learned c whole x (learned_of c whole (reverse xs) q)).entries ≡ ys ++ (e' ∷ k.now)) × Holds set (suc c) e' (record { row = r; older = older })
+          → in_queue set r ≡ true → Knows whole (r ∷ older) ys (x ∷ xs) q
+      with_turn e x xs k t m =
+          record {
+            now = t.0 ∷ k.now;
+            entries = ap (λ (q : Queue). q.entries) (learns_last whole x xs q) ∙ t.1;
+            zip = subst (λ b. AllZip (Holds set (suc c)) (t.0 ∷ k.now) (cond b (record { row = r; older = older } ∷ pick (in_queue set) older) (pick (in_queue set) older))) (sym m) (t.2, k.zip);
+          }
+
       by_case : (b : Bool) → in_queue set r ≡ b → (es : List Entry) (xs : List MemoryRow) → q.entries ≡ ys ++ es
           → AllZip (Holds set c) es (cond b (record { row = r; older = older } ∷ pick (in_queue set) older) (pick (in_queue set) older))
           → AllZip (HasAddress set) xs (cond b (record { row = r; older = older } ∷ pick (in_queue set) older) (pick (in_queue set) older))
@@ -249,13 +260,8 @@ module _ (g : Given) (c : ℕ) where
           let k =
           ih (ys ++ (e ∷ [])) es xs (is ∙ sym (append_assoc ys (e ∷ []) es)) (from_last (length older) ys e (from_less (length older) (length (r ∷ older)) ys (omega arith) from) (omega (arith, z.0.row))) z.1
           z'.1 in
-          let t =
-          turn whole older r e x ys k.now (learned_of c whole (reverse xs) q) (says.0 at) z.0 z'.0 (k.entries ∙ append_assoc ys (e ∷ []) k.now) from (below_zip set c older k.now k.zip) in
-          record {
-            now = t.0 ∷ k.now;
-            entries = ap (λ (q : Queue). q.entries) (learns_last whole x xs q) ∙ t.1;
-            zip = subst (λ b. AllZip (Holds set (suc c)) (t.0 ∷ k.now) (cond b (record { row = r; older = older } ∷ pick (in_queue set) older) (pick (in_queue set) older))) (sym m) (t.2, k.zip);
-          }
+          with_turn e x xs k
+          (turn whole older r e x ys k.now (learned_of c whole (reverse xs) q) (says.0 at) z.0 z'.0 (k.entries ∙ append_assoc ys (e ∷ []) k.now) from (below_zip set c older k.now k.zip)) m
       by_case false m es xs is z z' ih =
           let k = ih ys es xs is (from_less (length older) (length (r ∷ older)) ys (omega arith) from) z z' in
           record {
