@@ -1,5 +1,5 @@
 -- What the calls of a turn ask, where a row is let in.
-use Rattle.std.proofs.Common.{◌≡◌, ℕ, ◌+◌, ◌<◌, ◌≤◌, ◌^◌, Bool, true, false, cond, List, [], ◌∷◌, ◌++◌, Option, Some, None, refl, sym, ap, ◌∙◌, subst, arith, length, length-append, map}
+use Rattle.std.proofs.Common.{◌≡◌, ℕ, ◌+◌, ◌<◌, ◌≤◌, Bool, true, false, cond, List, [], ◌∷◌, Option, Some, None, refl, sym, ap, ◌∙◌, subst, arith, length}
 use Rattle.std.specs.Prelude.{◌&&◌, ◌||◌, ◌==◌, not, nat_lt, is_some, is_none, unwrap_or, count_by}
 use Rattle.std.proofs.lemmas.Bool.{and_parts, lt-ltb, ltb-true}
 use Rattle.std.proofs.lemmas.List.{length-map}
@@ -18,10 +18,9 @@ use Rattle.ruu_core.specs.Window as unit
 use Rattle.ruu_core.specs.Window.{Window, MayEnter, IsStation, is_load_kind, is_store_kind}
 use Rattle.ooo_front.specs.declared.row.FetchRow.{FetchRow}
 use Rattle.ooo_front.specs.Fetching.{FrontEnd}
-use Rattle.ooo_front.specs.Stands.{oldest, queued_before}
 use Rattle.core_parts.specs.declared.addresses.MemoryRow.{MemoryRow}
 use Rattle.core_parts.specs.declared.parts.Parts.{Parts}
-use Rattle.core_parts.specs.Fits.{Fits, IsBehind, Tag, unit_tags, queue_tags, address_tags}
+use Rattle.core_parts.specs.Fits.{Fits, IsBehind, Tag, queue_tags, address_tags}
 use Rattle.core_parts.proofs.Lists.{count_cons}
 use Rattle.core_dispatch.specs.declared.verdict.WrongAct.{WrongAct}
 use Rattle.core_dispatch.specs.declared.verdict.Verdict.{Verdict}
@@ -30,7 +29,7 @@ use Rattle.core_dispatch.specs.Verdict.{Admits, has_access, has_place, head_of, 
 use Rattle.core_dispatch.specs.Turn.{Enters, EntersRight, EntersWrong, FindsMemory, HasRight, HasWrong, MakesAny, TakesEntry, access_in, is_memory, right_station, wrong_station}
 use Rattle.core_dispatch.proofs.Entry.{head_is}
 use Rattle.core_dispatch.proofs.Performed.{performs, performed_formed}
-use Rattle.core_dispatch.proofs.Turned.{IsWrong, queued_some, right_of, wrong_of}
+use Rattle.core_dispatch.proofs.Turned.{right_of, wrong_of}
 
 -- ---- places
 
@@ -73,13 +72,6 @@ right_stays e = cc
 wrong_stays : (act : WrongAct) → verdict.Wrong act ≡ verdict.Stays → ⊥
 wrong_stays act e = cc
 
-pub some_rows : (c : ℕ) (parts : Parts) (h : FetchRow) → head_of c parts ≡ Some h → 0 < length parts.front.rows
-some_rows c parts h e = by_rows parts.front.rows (queued_some c (oldest parts.front.rows) h e).0
-  where
-    by_rows : (rows : List FetchRow) → oldest rows ≡ Some h → 0 < length rows
-    by_rows [] f = absurd cc
-    by_rows (x ∷ rows) f = omega arith
-
 -- ---- right rows
 
 pub record IsRight (trace : Trace) (n : ℕ) (called : Bool) (parts : Parts) : Type 0 where
@@ -106,9 +98,6 @@ right_found trace n called parts h e =
     by_step (Next did after) s e = record { did = did; after = after; step = s; place = lets (has_place n called parts (has_access did.instr)) (not (is_call did.instr.op) || is_empty parts) e }
 
 -- ---- what calls ask
-
-pub may_step : (c : ℕ) (parts : Parts) → Fits c 64 parts → parts.arch.icnt + 1 < 2 ^ 62
-may_step c parts f = omega (arith, f.numbers.instructions, f.numbers.rows, f.time.cycle)
 
 above : (m : Option ℕ) (f : FrontEnd) (row : ℕ) → IsBehind m f → row + length f.rows ≡ f.row → unit.is_above m row ≡ true
 above None f row b e = refl
@@ -140,9 +129,6 @@ enters_queue c parts row f room number =
     }
 
 -- ---- of a right row
-
-pub right_rows : (trace : Trace) (c : ℕ) (parts : Parts) → HasRight trace c parts → 0 < length parts.front.rows
-right_rows trace c parts (n, called, v) = let it = found trace c n called parts verdict.Right right_stays v in some_rows c parts it.head it.first
 
 pub right_head : (trace : Trace) (c : ℕ) (parts : Parts) → HasRight trace c parts → (h : FetchRow) × (head_of c parts ≡ Some h)
 right_head trace c parts (n, called, v) = let it = found trace c n called parts verdict.Right right_stays v in (it.head, it.first)
@@ -183,9 +169,6 @@ pub right_takes : (trace : Trace) (c : ℕ) (parts : Parts) (h : FetchRow) (did 
 right_takes trace c parts h did after f r e number memory = enters_queue c parts h.row f ((right_opens trace c parts did after r e).queue memory) number
 
 -- ---- of a wrong one
-
-pub wrong_rows : (act : WrongAct) (c : ℕ) (parts : Parts) → HasWrong act c parts → 0 < length parts.front.rows
-wrong_rows act c parts (trace, n, called, v) = let it = found trace c n called parts (verdict.Wrong act) (wrong_stays act) v in some_rows c parts it.head it.first
 
 pub wrong_head : (act : WrongAct) (c : ℕ) (parts : Parts) → HasWrong act c parts → (h : FetchRow) × (head_of c parts ≡ Some h)
 wrong_head act c parts (trace, n, called, v) = let it = found trace c n called parts (verdict.Wrong act) (wrong_stays act) v in (it.head, it.first)

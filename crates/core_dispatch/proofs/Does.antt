@@ -1,6 +1,6 @@
 -- What the oldest waiting row does, right or wrong.
-use Rattle.std.proofs.Common.{◌≡◌, ℕ, Bool, true, false, cond, Option, Some, None, Ok, Err, Result, refl, sym, ap, ◌∙◌, subst}
-use Rattle.std.specs.Prelude.{◌&&◌, not, is_none, unwrap_or}
+use Rattle.std.proofs.Common.{◌≡◌, ℕ, Bool, true, false, cond, Option, Some, None, Ok, Err, Result, refl, sym, ap, ◌∙◌}
+use Rattle.std.specs.Prelude.{unwrap_or}
 use Rattle.std.proofs.lemmas.Bool.{cond-true, cond-false}
 use Rattle.pisa_isa.specs.declared.instr.Instr.{Instr}
 use Rattle.pisa_isa.specs.Classes.{access_of}
@@ -18,7 +18,7 @@ use Rattle.ooo_table.specs.Path.{execution_of}
 use Rattle.ooo_table.specs.Machine.{Given, setting_of, nop, instruction_at, done_as, halted_as, executed_as, executed_at}
 use Rattle.core_dispatch.specs.declared.verdict.WrongAct.{WrongAct}
 use Rattle.core_dispatch.specs.Verdict.{act_by, ok}
-use Rattle.core_dispatch.proofs.Performed.{HasUse, Is, IfNext, called_is, effect_uses}
+use Rattle.core_dispatch.proofs.Performed.{HasUse, IfNext, called_is, effect_uses}
 
 -- ---- right rows
 

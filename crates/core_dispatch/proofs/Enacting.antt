@@ -1,8 +1,6 @@
 -- What the turn of the oldest waiting row leaves of the states, and what its station is.
-use Rattle.std.proofs.Common.{◌≡◌, ℕ, ◌+◌, ◌≤◌, Bool, true, false, cond, List, [], ◌∷◌, Option, Some, None, refl, sym, ap, ◌∙◌, subst, arith}
+use Rattle.std.proofs.Common.{◌≡◌, ℕ, ◌+◌, ◌≤◌, Bool, true, false, cond, List, [], Option, Some, None, refl, sym, ap, ◌∙◌, subst, arith}
 use Rattle.std.specs.Prelude.{◌&&◌, ◌==◌, not, is_some, is_none, unwrap_or}
-use Rattle.pisa_isa.specs.declared.instr.Instr.{Instr}
-use Rattle.pisa_isa.specs.declared.classes.UnitClass.{UnitClass}
 use Rattle.pisa_isa.specs.declared.classes.UnitClass.TheVariants.{Free}
 use Rattle.pisa_isa.specs.declared.places.Place.{Place}
 use Rattle.pisa_isa.specs.Classes.{unit_of, access_of}
@@ -20,21 +18,20 @@ use Rattle.sim_safe.specs.Decoded.{coded_by}
 use Rattle.sim_safe.specs.Step.{Next, Halt, is_call, step_of}
 use Rattle.spec_state.specs.Overlay as overlay
 use Rattle.spec_state.specs.Overlay.{Overlaid, seen}
-use Rattle.ruu_core.specs.declared.station.Station.{Station}
 use Rattle.ruu_core.specs.Window.{is_load_kind, is_store_kind}
 use Rattle.ooo_front.specs.declared.row.FetchRow.{FetchRow}
-use Rattle.ooo_table.specs.Row.{Fetched, Row}
-use Rattle.ooo_table.specs.Execution.{Execution, is_load, is_store, uses_memory, address, inert}
+use Rattle.ooo_table.specs.Row.{Row}
+use Rattle.ooo_table.specs.Execution.{Execution, is_load, is_store, uses_memory, address}
 use Rattle.ooo_table.specs.Path.{execution, execution_of}
-use Rattle.ooo_table.specs.Machine.{Given, setting_of, nop, instruction_at, done_as, halted_as, executed_as, memory_use}
+use Rattle.ooo_table.specs.Machine.{Given, setting_of, nop, instruction_at, done_as, halted_as, executed_as}
 use Rattle.core_parts.specs.declared.parts.Parts.{Parts}
 use Rattle.core_parts.specs.Rows.{Describes, Operates, Waits}
 use Rattle.core_parts.specs.Stands.{IsOf, acting}
 use Rattle.core_dispatch.specs.declared.verdict.WrongAct.{WrongAct}
 use Rattle.core_dispatch.specs.Verdict.{act_by, wrong_act}
 use Rattle.core_dispatch.specs.Turn.{Makes, MakesAny, access_in, right_station, wrong_station}
-use Rattle.core_dispatch.proofs.Performed.{HasUse, Performs, performs, use_load, use_store, use_address}
-use Rattle.core_dispatch.proofs.Does.{Way, Idles, Makes as Changes_it, WrongDoes, acted, right_does, wrong_does}
+use Rattle.core_dispatch.proofs.Performed.{Performs, performs, use_load, use_store, use_address}
+use Rattle.core_dispatch.proofs.Does.{Way, Idles, Makes as Made, WrongDoes, right_does, wrong_does}
 use Rattle.core_dispatch.proofs.Marked.{both}
 use Rattle.core_dispatch.proofs.Stay.{Enacts}
 
@@ -211,7 +208,7 @@ module _ (g : Given) (old : Parts) (r : Row) (h : FetchRow) (older : List Row) (
               view = idle_view over ∙ sym (ap (λ (y : Execution). y.after) x);
               applied = omega (arith, ap (λ (o : Overlaid). o.applied) over);
             }
-        by_way (Changes_it e some uses x) =
+        by_way (Made e some uses x) =
             let made : Makes (reader_of old.arch) e old.overlay new.overlay = subst (λ m. MakesAny (reader_of old.arch) m old.overlay new.overlay) some makes in
             let i : is_none act.changes ≡ false = ap is_none some in
             record {

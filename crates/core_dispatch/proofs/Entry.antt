@@ -12,7 +12,6 @@ use Rattle.ooo_front.specs.declared.row.FetchRow.{FetchRow}
 use Rattle.ooo_front.specs.Stands.{oldest, queued_before, with_rows}
 use Rattle.ooo_front.specs.Path.{IsPath}
 use Rattle.core_parts.proofs.Lists.{same_number}
-use Rattle.core_parts.specs.declared.addresses.MemoryRow.{MemoryRow}
 use Rattle.core_parts.specs.Addresses.{AddressList}
 use Rattle.core_dispatch.specs.Turn.{address_at, entered_addresses, entered_queue, entry_at, entry_of, is_fed, is_memory, with_entry}
 

@@ -1,5 +1,5 @@
 -- An exit was dispatched exactly where the state behind the last dispatched right row has exited.
-use Rattle.std.proofs.Common.{◌≡◌, ℕ, suc, ◌≤◌, Bool, true, false, cond, List, [], ◌∷◌, ◌++◌, Option, Some, None, refl, sym, ap, ◌∙◌, subst}
+use Rattle.std.proofs.Common.{◌≡◌, ℕ, Bool, true, false, cond, List, [], ◌∷◌, ◌++◌, Option, Some, None, refl, sym, ap, ◌∙◌}
 use Rattle.std.specs.Prelude.{◌&&◌, ◌||◌, is_some, is_none, find}
 use Rattle.std.specs.List.{list_any}
 use Rattle.std.proofs.lemmas.Bool.{cond-true}
@@ -17,7 +17,6 @@ use Rattle.ooo_table.specs.Machine.{Given, setting_of, executed_as, executed_at,
 use Rattle.ooo_table.proofs.Route.{Strays}
 use Rattle.core_parts.specs.Stands.{settled, state_after}
 use Rattle.core_dispatch.proofs.Partial.{Fit, Left, Untouched}
-use Rattle.core_dispatch.proofs.Marked.{both}
 
 -- ---- the exit of a right row
 

@@ -1,21 +1,19 @@
 -- The parts fit together after a turn.
 use Rattle.std.proofs.Common.{◌≡◌, ℕ, ◌+◌, ◌*◌, ◌≤◌, Bool, true, false, cond, List, [], ◌∷◌, ◌++◌, Option, Some, None, refl, sym, ap, ◌∙◌, subst, arith, length, length-append, map}
-use Rattle.std.specs.Prelude.{◌||◌, All, filter, is_none, unwrap_or, count_by}
+use Rattle.std.specs.Prelude.{All, filter, unwrap_or, count_by}
 use Rattle.std.proofs.lemmas.List.Elements.{All-cons, All-head, All-tail, All-nil}
 use Rattle.pisa_step.specs.declared.changes.Changes.{Changes}
 use Rattle.event_trace.specs.declared.trace.Trace.{Trace}
 use Rattle.sim_safe.specs.State.{State, Storage, state_of, reader_of}
 use Rattle.pisa_step.specs.Reader.{Reader}
 use Rattle.bpred_unit.specs.Stands.{cells_of, IsTop}
-use Rattle.lsq_core.specs.Queue.{Entry, Queue}
+use Rattle.lsq_core.specs.Queue.{Queue}
 use Rattle.spec_state.specs.Overlay.{Overlaid}
 use Rattle.ruu_core.specs.declared.station.Station.{Station}
 use Rattle.ruu_core.specs.Window as unit
 use Rattle.ruu_core.specs.Window.{Window, is_store}
 use Rattle.ooo_front.specs.declared.row.FetchRow.{FetchRow}
 use Rattle.ooo_front.specs.Fetching.{FrontEnd}
-use Rattle.ooo_front.specs.Stands.{oldest}
-use Rattle.core_parts.specs.declared.addresses.MemoryRow.{MemoryRow}
 use Rattle.core_parts.specs.declared.answers.Dispatched.{Dispatched}
 use Rattle.core_parts.specs.declared.answers.Dispatched.TheVariants as turn
 use Rattle.core_parts.specs.declared.parts.Parts.{Parts}

@@ -1,6 +1,6 @@
 -- The oldest waiting row is dispatched: what that changes, and what it leaves as it was.
 use Rattle.std.proofs.Common.{◌≡◌, ℕ, ◌+◌, Bool, true, false, cond, List, [], ◌∷◌, ◌++◌, Option, Some, None, refl, sym, ap, ◌∙◌, subst, arith, length, length-append}
-use Rattle.std.specs.Prelude.{◌&&◌, ◌==◌, not, is_some, is_none, find, filter_map, count_by}
+use Rattle.std.specs.Prelude.{◌&&◌, ◌==◌, is_some, is_none, find, filter_map, count_by}
 use Rattle.std.proofs.lemmas.Bool.{and_parts}
 use Rattle.mem_hier.specs.Replay.{Reference, Fetch, Load, Store}
 use Rattle.bpred_unit.specs.History.{Event, LookUp, Update, Recover}
@@ -11,11 +11,11 @@ use Rattle.ooo_table.specs.Table.{Setting, NextFetch}
 use Rattle.ooo_table.specs.Path.{execution, stores}
 use Rattle.ooo_table.specs.Done.{live, waiting}
 use Rattle.ooo_table.specs.Recovery.{recovers}
-use Rattle.ooo_table.specs.References.{references_of, store_references, load_references, updates_of, predictor_events_of}
+use Rattle.ooo_table.specs.References.{references_of, predictor_events_of}
 use Rattle.ooo_table.specs.Later.{Each}
 use Rattle.ooo_table.specs.CycleLaws.{as_next, Leads, Linked, Newest}
 use Rattle.ooo_table.specs.Machine.{Given}
-use Rattle.core_parts.specs.Rows.{Placed, pick, newest_number, Waits}
+use Rattle.core_parts.specs.Rows.{pick, newest_number, Waits}
 use Rattle.core_parts.specs.Stands.{next_of, settled, state_after}
 use Rattle.core_parts.proofs.Lists.{and_false, map_some, map_none, count_cons}
 

@@ -1,28 +1,27 @@
 -- The rows within the dispatch stage: the older ones had their turns, the younger ones not yet.
-use Rattle.std.proofs.Common.{◌≡◌, ℕ, suc, ◌<◌, ◌≤◌, Bool, true, false, cond, List, [], ◌∷◌, ◌++◌, Option, Some, None, refl, sym, ap, ◌∙◌, subst, arith, inl, inr}
+use Rattle.std.proofs.Common.{◌≡◌, ℕ, suc, ◌<◌, ◌≤◌, Bool, true, false, List, [], ◌∷◌, ◌++◌, Some, None, refl, sym, ap, ◌∙◌, subst, inl, inr}
 use Rattle.std.specs.Prelude.{◌⊎◌, ◌&&◌, ◌||◌, not, is_some, is_none, nat_lt}
 use Rattle.std.specs.List.{AllZip, list_any, list_all}
 use Rattle.std.proofs.lemmas.Bool.{cond_both, and_parts, not-true}
-use Rattle.mem_hier.specs.Replay.{greatest_fetch_of, greatest_load_of}
 use Rattle.ooo_table.specs.Row.{Fetched, Row, sweep}
 use Rattle.ooo_table.specs.Table.{Setting, Table}
-use Rattle.ooo_table.specs.Path.{execution, execution_of, is_exit}
+use Rattle.ooo_table.specs.Path.{execution_of, is_exit}
 use Rattle.ooo_table.specs.Done.{waiting}
-use Rattle.ooo_table.specs.Commit.{commit, commit_row, commits}
-use Rattle.ooo_table.specs.Recovery.{recover, squash_row, recovers}
+use Rattle.ooo_table.specs.Commit.{commit_row, commits}
+use Rattle.ooo_table.specs.Recovery.{squash_row, recovers}
 use Rattle.ooo_table.specs.References.{store_references}
-use Rattle.ooo_table.specs.Issue.{issue, issue_row, issues, accesses, access_of}
-use Rattle.ooo_table.specs.Dispatch.{dispatches, dispatch_row, is_first, has_place, may_enter}
+use Rattle.ooo_table.specs.Issue.{issue_row, issues, accesses, access_of}
+use Rattle.ooo_table.specs.Dispatch.{dispatches, dispatch_row, may_enter}
 use Rattle.ooo_table.specs.Cycle.{table, after_commit, after_recover, after_issue}
 use Rattle.ooo_table.specs.Ends.{AtStop}
 use Rattle.ooo_table.specs.Bound.{Bounded}
 use Rattle.ooo_table.specs.Later.{Each, Where, By, Past}
-use Rattle.ooo_table.specs.CycleLaws.{Newest, Passed, RowFacts, SquashSpreads}
+use Rattle.ooo_table.specs.CycleLaws.{Newest, RowFacts, SquashSpreads}
 use Rattle.ooo_table.specs.Machine.{Given, setting_of}
 use Rattle.ooo_table.specs.MachineLaws.{IsSound}
 use Rattle.ooo_table.specs.RunLaws.{IsStep}
 use Rattle.ooo_table.proofs.Order.{Changed}
-use Rattle.ooo_table.proofs.RowFacts.{sweep_keeps, waits_not, facts_dispatch, facts_same, changed_commit, changed_squash, changed_issue, changed_dispatch, same_changed}
+use Rattle.ooo_table.proofs.RowFacts.{sweep_keeps, waits_not, facts_dispatch, facts_same, changed_dispatch, same_changed}
 use Rattle.ooo_table.proofs.Quiet.{Own, Same, each_turn, own_commit, own_squash, own_issue, own_dispatch, same_dispatch, both_table}
 use Rattle.ooo_table.proofs.Counts.{past_table}
 use Rattle.ooo_table.proofs.CycleFacts.{facts_three, follows_three, times_three}

@@ -19,16 +19,14 @@ use Rattle.event_trace.specs.declared.trace.Record.{Record}
 use Rattle.event_trace.specs.declared.trace.Trace.{Trace}
 use Rattle.sim_safe.specs.declared.record.CallNote.{CallNote}
 use Rattle.sim_safe.specs.declared.record.CommitRecord.{CommitRecord}
-use Rattle.sim_safe.specs.declared.record.Peek.{Peek}
 use Rattle.sim_safe.specs.declared.record.Peek.TheVariants as peek
 use Rattle.sim_safe.specs.State.{State, range_of, state_of}
 use Rattle.sim_safe.specs.Call.{comparisons, mismatch, block_in_text}
-use Rattle.sim_safe.specs.Step.{Outcome, Next, Halt, call_recorded, called, executed, exit_asked, is_call, peek_of, peeked_at, replayed, replayed_next, served, step_at, step_decoded, step_fetched, step_of, step_running, unless, unrecorded_as}
+use Rattle.sim_safe.specs.Step.{Outcome, Next, Halt, call_recorded, called, executed, exit_asked, is_call, peek_of, peeked_at, replayed_next, served, step_at, step_decoded, step_fetched, step_of, step_running, unless, unrecorded_as}
 use Rattle.ruu_core.specs.Window.{is_load_kind, is_store_kind}
 use Rattle.ooo_table.specs.Execution.{is_load, is_store, uses_memory, address}
 use Rattle.ooo_table.specs.Machine.{memory_use}
 use Rattle.core_parts.specs.declared.parts.Parts.{Parts}
-use Rattle.core_dispatch.specs.declared.verdict.Verdict.{Verdict}
 use Rattle.core_dispatch.specs.declared.verdict.Verdict.TheVariants as verdict
 use Rattle.core_dispatch.specs.Verdict.{has_access, has_place, is_empty, right_verdict}
 

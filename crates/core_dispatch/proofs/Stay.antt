@@ -3,11 +3,11 @@ use Rattle.std.proofs.Common.{◌≡◌, ℕ, suc, ◌+◌, ◌/◌, ◌<◌, �
 use Rattle.std.specs.Prelude.{◌&&◌, ◌||◌, ◌==◌, not, is_some, is_none, option_map, count_by}
 use Rattle.std.specs.List.{AllZip}
 use Rattle.std.proofs.lemmas.Bool.{and_parts, lt-ltb}
-use Rattle.sim_safe.specs.State.{State, state_of}
+use Rattle.sim_safe.specs.State.{state_of}
 use Rattle.mem_hier.specs.Stands as hierarchy
 use Rattle.bpred_unit.specs.Stands as predictor
 use Rattle.spec_state.specs.Overlay as overlay
-use Rattle.lsq_core.specs.Queue.{Entry, Queue}
+use Rattle.lsq_core.specs.Queue.{Queue}
 use Rattle.ruu_core.specs.declared.station.Station.{Station}
 use Rattle.ruu_core.specs.Window as unit
 use Rattle.ruu_core.specs.Window.{Window, is_by, is_load, is_store, second_reads}
@@ -17,17 +17,15 @@ use Rattle.ooo_table.specs.Row.{Row, MemoryAccess, is_before}
 use Rattle.ooo_table.specs.Execution as table
 use Rattle.ooo_table.specs.Execution.{MemoryUse, NoMemory, LoadFrom, StoreTo, uses_memory, address, unit_latency, Pool, Alus, Multipliers, Ports}
 use Rattle.ooo_table.specs.Table.{Setting, NextFetch, Table}
-use Rattle.ooo_table.specs.Path.{execution, stores}
+use Rattle.ooo_table.specs.Path.{execution}
 use Rattle.ooo_table.specs.Done.{live, waiting, have_produced}
 use Rattle.ooo_table.specs.Issue.{holds}
 use Rattle.ooo_table.specs.Later.{Each}
 use Rattle.ooo_table.specs.CycleLaws.{Leads, Linked, Passed}
 use Rattle.ooo_table.specs.Machine.{Given, setting_of}
-use Rattle.ooo_table.proofs.Steps.{Kind}
-use Rattle.core_parts.specs.declared.addresses.MemoryRow.{MemoryRow}
 use Rattle.core_parts.specs.declared.parts.Parts.{Parts}
 use Rattle.core_parts.specs.Addresses.{AddressList}
-use Rattle.core_parts.specs.Rows.{Placed, pick, newest_number, in_queue, Describes, Lives, Holds, HasAddress, Waits}
+use Rattle.core_parts.specs.Rows.{pick, newest_number, in_queue, Describes, Lives, Holds, HasAddress, Waits}
 use Rattle.core_parts.specs.Stands.{Stands, acting, next_of, settled}
 use Rattle.core_parts.proofs.Lists.{and_false, pick_skip, pick_take}
 use Rattle.core_dispatch.specs.Turn.{Enters, entry_of, address_at, entered_queue, entered_addresses, is_fed, is_memory}

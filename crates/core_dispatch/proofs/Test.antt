@@ -1,26 +1,23 @@
 -- The verdict on the oldest waiting row is the test of the table.
-use Rattle.std.proofs.Common.{◌≡◌, ℕ, Bool, true, false, cond, List, [], ◌∷◌, ◌++◌, Option, Some, None, refl, sym, ap, ◌∙◌, length}
+use Rattle.std.proofs.Common.{◌≡◌, ℕ, Bool, true, false, cond, List, [], ◌∷◌, ◌++◌, refl, sym, ap, ◌∙◌, length}
 use Rattle.std.specs.Prelude.{◌&&◌, ◌||◌, ◌==◌, not, nat_lt, is_some, count_by}
 use Rattle.std.specs.List.{list_any, list_all}
 use Rattle.pisa_step.specs.declared.cause.Cause.{Cause}
 use Rattle.sim_safe.specs.declared.record.CommitRecord.{CommitRecord}
 use Rattle.sim_safe.specs.State.{State}
-use Rattle.sim_safe.specs.Step.{Outcome, Next, Halt, is_call}
+use Rattle.sim_safe.specs.Step.{Next, Halt, is_call}
 use Rattle.ooo_table.specs.declared.config.OooConfig.{OooConfig}
-use Rattle.ooo_table.specs.Row.{Row, is_at, sweep}
+use Rattle.ooo_table.specs.Row.{Row, is_at}
 use Rattle.ooo_table.specs.Execution.{uses_memory}
 use Rattle.ooo_table.specs.Table.{Setting}
 use Rattle.ooo_table.specs.Path.{execution, is_exit}
 use Rattle.ooo_table.specs.Done.{live, waiting}
-use Rattle.ooo_table.specs.Dispatch.{dispatches, dispatch_row}
-use Rattle.ooo_table.specs.Later.{Each}
+use Rattle.ooo_table.specs.Dispatch.{dispatches}
 use Rattle.core_parts.specs.declared.parts.Parts.{Parts}
-use Rattle.core_parts.specs.Rows.{pick}
 use Rattle.core_dispatch.specs.declared.verdict.WrongAct.{WrongAct}
 use Rattle.core_dispatch.specs.declared.verdict.Verdict.{Verdict}
 use Rattle.core_dispatch.specs.declared.verdict.Verdict.TheVariants as verdict
 use Rattle.core_dispatch.specs.Verdict.{has_access, is_empty, has_place, right_verdict, wrong_verdict}
-use Rattle.core_dispatch.proofs.Marked.{both, not_picked}
 
 -- the verdict lets the row enter
 abbrev pub enters : Verdict → Bool

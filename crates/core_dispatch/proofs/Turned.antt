@@ -1,6 +1,6 @@
 -- Each answer of a turn over the parts is that of the table.
-use Rattle.std.proofs.Common.{◌≡◌, ℕ, suc, ◌+◌, ◌<◌, Bool, true, false, cond, List, [], ◌∷◌, ◌++◌, Option, Some, None, refl, sym, ap, ◌∙◌, subst, arith, inl, inr, length}
-use Rattle.std.specs.Prelude.{◌⊎◌, ◌&&◌, ◌||◌, ◌==◌, ◌-◌, not, nat_lt, slice_get, is_some, unwrap_or, count_by}
+use Rattle.std.proofs.Common.{◌≡◌, ℕ, suc, ◌<◌, Bool, true, false, cond, List, [], ◌∷◌, ◌++◌, Option, Some, None, refl, sym, ap, ◌∙◌, subst, arith, length}
+use Rattle.std.specs.Prelude.{◌&&◌, ◌||◌, ◌==◌, ◌-◌, not, nat_lt, slice_get, is_some, unwrap_or, count_by}
 use Rattle.std.specs.List.{AllZip}
 use Rattle.event_trace.specs.declared.trace.Trace.{Trace}
 use Rattle.pisa_step.specs.declared.cause.Cause.{Cause}
@@ -25,8 +25,8 @@ use Rattle.core_parts.specs.Stages.{Dispatching, DispatchesAs, DispatchIsOver, D
 use Rattle.core_dispatch.specs.declared.verdict.WrongAct.{WrongAct}
 use Rattle.core_dispatch.specs.declared.verdict.Verdict.{Verdict}
 use Rattle.core_dispatch.specs.declared.verdict.Verdict.TheVariants as verdict
-use Rattle.core_dispatch.specs.Verdict.{has_access, has_place, head_of, is_empty, right_verdict, wrong_act, wrong_verdict, verdict_at, verdict_of}
-use Rattle.core_dispatch.specs.Turn.{EntersRight, EntersWrong, RightTurn, WrongTurn, TurnBy, Turns, access_in, right_station, wrong_station}
+use Rattle.core_dispatch.specs.Verdict.{has_access, has_place, is_empty, right_verdict, wrong_act, wrong_verdict, verdict_at, verdict_of}
+use Rattle.core_dispatch.specs.Turn.{EntersRight, EntersWrong, TurnBy, Turns, access_in, right_station, wrong_station}
 use Rattle.core_dispatch.proofs.Marked.{both}
 use Rattle.core_dispatch.proofs.Enacting.{right_is, right_halts, right_enacts, wrong_is, wrong_enacts}
 use Rattle.core_dispatch.proofs.Test.{enters}

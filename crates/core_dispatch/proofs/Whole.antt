@@ -1,31 +1,29 @@
 -- A turn over the parts is a turn of the table.
 use Rattle.std.proofs.Common.{◌≡◌, ℕ, suc, ◌+◌, ◌<◌, Bool, true, false, cond, List, [], ◌∷◌, ◌++◌, Option, Some, None, refl, sym, ap, ◌∙◌, subst, arith, length, take}
-use Rattle.std.specs.Prelude.{◌&&◌, ◌||◌, ◌==◌, ◌-◌, not, nat_lt, slice_get, is_some, is_none, unwrap_or, find, count_by}
+use Rattle.std.specs.Prelude.{◌&&◌, ◌||◌, ◌==◌, ◌-◌, not, nat_lt, is_some, is_none, find, count_by}
 use Rattle.std.specs.List.{AllZip, list_any, list_all}
 use Rattle.std.proofs.lemmas.Bool.{cond-true, cond-false, and_parts, ltb-true, eqb-true}
 use Rattle.pisa_isa.specs.Classes.{access_of}
 use Rattle.mem_hier.specs.Replay.{greatest_fetch_of, greatest_load_of}
-use Rattle.event_trace.specs.declared.trace.Trace.{Trace}
 use Rattle.pisa_step.specs.declared.cause.Cause.{Cause}
-use Rattle.sim_safe.specs.declared.record.CommitRecord.{CommitRecord}
 use Rattle.sim_safe.specs.State.{State, state_of}
-use Rattle.sim_safe.specs.Step.{Outcome, Next, Halt, is_call, step_of}
+use Rattle.sim_safe.specs.Step.{Outcome, Next, Halt, step_of}
 use Rattle.ruu_core.specs.declared.station.Station.{Station}
 use Rattle.ruu_core.specs.Window as unit
 use Rattle.ooo_front.specs.declared.row.FetchRow.{FetchRow}
-use Rattle.ooo_front.specs.Stands.{oldest, queued_before}
+use Rattle.ooo_front.specs.Stands.{oldest}
 use Rattle.ooo_table.specs.declared.config.OooConfig.{OooConfig}
-use Rattle.ooo_table.specs.Row.{Fetched, Row, is_at, every, sweep}
+use Rattle.ooo_table.specs.Row.{Row, is_at, every, sweep}
 use Rattle.ooo_table.specs.Execution.{Execution, uses_memory}
-use Rattle.ooo_table.specs.Table.{Setting, NextFetch, Table}
-use Rattle.ooo_table.specs.Path.{execution, execution_of, is_exit}
+use Rattle.ooo_table.specs.Table.{Setting, NextFetch}
+use Rattle.ooo_table.specs.Path.{execution}
 use Rattle.ooo_table.specs.Done.{live, waiting}
-use Rattle.ooo_table.specs.Dispatch.{dispatches, dispatch_row, dispatch, may_enter, stops_machine}
+use Rattle.ooo_table.specs.Dispatch.{dispatches, dispatch_row, may_enter, stops_machine}
 use Rattle.ooo_table.specs.Cycle.{table, after_issue, after_dispatch}
 use Rattle.ooo_table.specs.Ends.{stops_in}
 use Rattle.ooo_table.specs.Later.{Each, Where}
-use Rattle.ooo_table.specs.CycleLaws.{as_next, Linked, Newest, Passed, Focus, RowFacts, StopsAt}
-use Rattle.ooo_table.specs.Machine.{Given, setting_of, done_as, halted_as, executed_as, instruction_at}
+use Rattle.ooo_table.specs.CycleLaws.{as_next, Linked, Newest, Passed, RowFacts}
+use Rattle.ooo_table.specs.Machine.{Given, setting_of}
 use Rattle.ooo_table.specs.MachineLaws.{IsSound}
 use Rattle.ooo_table.proofs.Kept.{each_of}
 use Rattle.ooo_table.proofs.Quiet.{same_dispatch}
@@ -35,26 +33,22 @@ use Rattle.ooo_table.proofs.CycleFacts.{facts_three, route_three}
 use Rattle.ooo_table.proofs.Timely.{bounded}
 use Rattle.ooo_table.proofs.Turns.{within_dispatch}
 use Rattle.ooo_table.proofs.Units.{not_at}
-use Rattle.core_parts.specs.declared.answers.Dispatched.{Dispatched}
-use Rattle.core_parts.specs.declared.answers.Dispatched.TheVariants as turn
 use Rattle.core_parts.specs.declared.parts.Parts.{Parts}
 use Rattle.core_parts.specs.Fits.{Fits}
 use Rattle.core_parts.specs.Rows.{Placed, pick, in_queue, Lives, Holds, Waits}
-use Rattle.core_parts.specs.Stands.{Stands, acting, next_of, settled, state_after}
-use Rattle.core_parts.specs.Stages.{Dispatching, DispatchesAs, DispatchIsOver, DispatchTurn, dispatched_up_to}
+use Rattle.core_parts.specs.Stands.{Stands, next_of, settled, state_after}
+use Rattle.core_parts.specs.Stages.{Dispatching, DispatchesAs, DispatchIsOver}
 use Rattle.core_parts.proofs.Lists.{and_false, count_skip, count_take, length_sweep, pick_skip, pick_length, same_number, zip_length}
 use Rattle.core_dispatch.specs.declared.verdict.WrongAct.{WrongAct}
-use Rattle.core_dispatch.specs.declared.verdict.Verdict.{Verdict}
-use Rattle.core_dispatch.specs.declared.verdict.Verdict.TheVariants as verdict
-use Rattle.core_dispatch.specs.Verdict.{has_access, head_of, is_empty, right_verdict, wrong_act, wrong_verdict, verdict_at, verdict_of}
-use Rattle.core_dispatch.specs.Turn.{Enters, EntersRight, EntersWrong, TurnBy, Turns, access_in, right_station, wrong_station}
+use Rattle.core_dispatch.specs.Verdict.{has_access, is_empty, right_verdict, wrong_act, wrong_verdict, verdict_at}
+use Rattle.core_dispatch.specs.Turn.{Enters}
 use Rattle.core_dispatch.proofs.Lasts.{ends_in, zip_end, oldest_of}
 use Rattle.core_dispatch.proofs.Partial.{Fit, Untouched, admitted, fit_part, not_yet, stands_at, AtState}
 use Rattle.core_dispatch.proofs.Marked.{marked, both, not_picked, in_middle, Fresh, live_dispatched, pick_young, waits_all, unset, fresh_left, next_oldest, settled_young}
 use Rattle.core_dispatch.proofs.Performed.{use_memory, performs}
-use Rattle.core_dispatch.proofs.Does.{Way, Idles, Makes, WrongDoes}
+use Rattle.core_dispatch.proofs.Does.{Way, Idles, Makes}
 use Rattle.core_dispatch.proofs.Stay.{Going, Enacts, stands_after, none_passed}
-use Rattle.core_dispatch.proofs.Enacting.{Ready, state_now, right_is, right_halts, right_enacts, wrong_is, wrong_enacts}
+use Rattle.core_dispatch.proofs.Enacting.{Ready, right_is, right_halts, wrong_is}
 use Rattle.core_dispatch.proofs.Exits.{exited, exits_none, exits_some, last_some}
 use Rattle.core_dispatch.proofs.Test.{Counts, Still, enters, halt_test, next_test, wrong_test}
 

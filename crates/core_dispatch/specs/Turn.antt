@@ -1,6 +1,5 @@
 -- A turn of the dispatch stage, over the parts.
 use Rattle.std.specs.Prelude.{◌≡◌, ℕ, ◌+◌, ◌/◌, ◌<◌, Bool, true, false, not, List, [], ◌∷◌, ◌++◌, length, Option, Some, None, is_none, unwrap_or, ◌==◌, ◌&&◌, ◌||◌, if◌then◌else◌}
-use Rattle.pisa_isa.specs.declared.instr.Instr.{Instr}
 use Rattle.pisa_isa.specs.Coding.{IsWellFormed}
 use Rattle.pisa_step.specs.declared.changes.Changes.{Changes}
 use Rattle.pisa_step.specs.Reader.{Reader}

@@ -1,5 +1,5 @@
 -- What a turn of the dispatch stage comes to, by the parts before it.
-use Rattle.std.specs.Prelude.{ℕ, Bool, not, List, length, All, Option, Some, None, Result, Ok, Err, is_some, nat_lt, ◌==◌, ◌<◌, ◌&&◌, ◌||◌, if◌then◌else◌}
+use Rattle.std.specs.Prelude.{ℕ, Bool, not, length, All, Option, Some, None, Result, Ok, Err, is_some, nat_lt, ◌==◌, ◌<◌, ◌&&◌, ◌||◌, if◌then◌else◌}
 use Rattle.std.specs.Option.{ForSome}
 use Rattle.pisa_isa.specs.declared.instr.Instr.{Instr}
 use Rattle.pisa_isa.specs.Classes.{access_of}

@@ -35,7 +35,7 @@ fn take_turn(
 /// Lets the oldest waiting row be dispatched in the cycle, in which so many were, a call among them or none, and answers
 /// its number and whether it is a call. `Over` exactly where no row is dispatched any more, and `Stops` where the machine
 /// stops at that row; then all stays. `OutOfMemory` comes only where a right row writes to pages that aren't
-/// reserved; then nothing stands otherwise than before but for reserved pages.
+/// reserved; then all is as before, but for pages that were reserved.
 pub fn dispatch_one(
     parts: &mut Parts,
     trace: &Trace,

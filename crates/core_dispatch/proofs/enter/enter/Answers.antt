@@ -1,4 +1,4 @@
-use Rattle.std.proofs.Common.{◌∙◌, ap, sym, subst}
+use Rattle.std.proofs.Common.{◌∙◌, ap, sym}
 use Rattle.ruu_core.specs.Window.{Window, is_above}
 use Rattle.core_dispatch.proofs.Entry.{is_there, entered_so, addressed_so}
 use Rattle.core_dispatch.proofs.enter.enter.Goals as goal

@@ -1,10 +1,10 @@
-use Rattle.std.proofs.Common.{◌≡◌, ◌∙◌, refl, ap, sym, subst}
+use Rattle.std.proofs.Common.{◌∙◌, refl, ap, sym, subst}
 use Rattle.sim_safe.specs.State.{state_of}
 use Rattle.sim_safe.specs.Step.{outcome_of}
 use Rattle.ruu_core.specs.declared.station.Station.{Station}
 use Rattle.ruu_core.specs.Window.{MayEnter}
 use Rattle.core_dispatch.specs.Turn.{TakesEntry, is_memory}
-use Rattle.core_dispatch.proofs.Admit.{right_no_halt, right_enters, right_takes, right_rows, enters_right, may_step}
+use Rattle.core_dispatch.proofs.Admit.{right_no_halt, right_enters, right_takes, enters_right}
 use Rattle.core_dispatch.proofs.enter.enter_right.Goals as goal
 
 pub unreachable-requires : goal.unreachable-requires

@@ -1,8 +1,8 @@
-use Rattle.std.proofs.Common.{◌≡◌, ◌∙◌, refl, ap, sym, subst}
+use Rattle.std.proofs.Common.{◌∙◌, refl, ap, sym, subst}
 use Rattle.ruu_core.specs.declared.station.Station.{Station}
 use Rattle.ruu_core.specs.Window.{MayEnter}
 use Rattle.core_dispatch.specs.Turn.{TakesEntry, is_memory}
-use Rattle.core_dispatch.proofs.Admit.{wrong_room, wrong_rows, wrong_enters, wrong_takes, enters_wrong}
+use Rattle.core_dispatch.proofs.Admit.{wrong_room, wrong_enters, wrong_takes, enters_wrong}
 use Rattle.core_dispatch.proofs.enter.enter_wrong.Goals as goal
 
 pub make-requires-clause-room : goal.make-requires-clause-room
