@@ -1,16 +1,15 @@
 -- How the stage goes on or ends behind a row that commits, and what is then shown of it.
-use Rattle.std.proofs.Common.{◌≡◌, ℕ, suc, ◌≤◌, Bool, true, false, cond, List, [], ◌∷◌, ◌++◌, length, Option, Some, None, refl, sym, ap, ◌∙◌, subst, arith}
+use Rattle.std.proofs.Common.{◌≡◌, ℕ, suc, ◌≤◌, true, false, cond, List, [], ◌∷◌, ◌++◌, length, Option, Some, None, refl, sym, ap, ◌∙◌, subst, arith}
 use Rattle.std.specs.Prelude.{◌||◌, ◌==◌, is_some}
 use Rattle.ruu_core.specs.declared.station.Station.{Station}
 use Rattle.ooo_table.specs.declared.event.EndWord.{EndWord}
 use Rattle.ooo_table.specs.Row.{Row, sweep}
-use Rattle.ooo_table.specs.Path.{execution}
 use Rattle.ooo_table.specs.Commit.{commit_row}
 use Rattle.ooo_table.specs.Cycle.{table, after_commit}
-use Rattle.ooo_table.specs.Ends.{AtCommit, rows_at, stops_in, commit_up_to, is_last, last_commit, or_else, or_stop}
+use Rattle.ooo_table.specs.Ends.{stops_in, commit_up_to, is_last, last_commit, or_else, or_stop}
 use Rattle.ooo_table.specs.Events.{committed_state, state_behind, exit_word}
 use Rattle.ooo_table.specs.Machine.{Given, setting_of}
-use Rattle.ooo_table.specs.TurnLaws.{MeetsEnd, EndsThere}
+use Rattle.ooo_table.specs.TurnLaws.{EndsThere}
 use Rattle.ooo_table.proofs.Deadlines.{sweep_split}
 use Rattle.ooo_table.proofs.Ends.{swept_length, same_commits}
 use Rattle.ooo_table.proofs.Turns.{ends_there}

@@ -9,10 +9,9 @@ use Rattle.pisa_step.specs.declared.changes.Changes.{Changes}
 use Rattle.pisa_step.specs.Effect.{effect_of}
 use Rattle.event_trace.specs.declared.trace.Record.{Record}
 use Rattle.event_trace.specs.declared.trace.Trace.{Trace}
-use Rattle.sim_safe.specs.declared.record.CommitRecord.{CommitRecord}
 use Rattle.sim_safe.specs.State.{State, range_of}
 use Rattle.sim_safe.specs.Call.{comparisons, mismatch, block_in_text}
-use Rattle.sim_safe.specs.Step.{Outcome, Next, Halt, executed, unrecorded_as, unrecorded, exit_asked, unless, call_recorded, served, replayed_next, called, is_call, step_at, step_decoded, step_fetched, step_running, step_of}
+use Rattle.sim_safe.specs.Step.{Outcome, Next, Halt, executed, unrecorded_as, unrecorded, exit_asked, unless, call_recorded, served, replayed_next, called, is_call, step_decoded, step_fetched, step_running, step_of}
 use Rattle.ruu_core.specs.declared.station.Station.{Station}
 use Rattle.ooo_table.specs.Row.{Row}
 use Rattle.ooo_table.specs.Execution.{Execution}

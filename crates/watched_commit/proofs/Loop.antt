@@ -1,6 +1,6 @@
 -- The loop over the rows that commit: what holds between two turns, and what each way out of it gives.
 use Rattle.std.proofs.Common.{◌≡◌, ℕ, suc, ◌+◌, ◌<◌, ◌≤◌, Bool, true, false, cond, List, [], ◌∷◌, ◌++◌, length, Option, Some, None, refl, sym, ap, ◌∙◌, subst, arith, inl, inr, append-nil}
-use Rattle.std.specs.Prelude.{◌⊎◌, ◌&&◌, ◌||◌, ◌==◌, is_some, nat_lt, count_by}
+use Rattle.std.specs.Prelude.{◌&&◌, ◌||◌, ◌==◌, is_some, nat_lt, count_by}
 use Rattle.std.proofs.lemmas.Bool.{ltb-true, false_from_ne_true}
 use Rattle.event_trace.specs.declared.trace.Trace.{Trace}
 use Rattle.ruu_core.specs.declared.station.Station.{Station}
@@ -18,7 +18,6 @@ use Rattle.core_parts.specs.declared.parts.Parts.{Parts}
 use Rattle.core_parts.specs.Fits.{Fits, HasNumbers}
 use Rattle.core_parts.specs.Stands.{Stands}
 use Rattle.core_parts.specs.Stages.{Committing, CommitsOne}
-use Rattle.core_parts.proofs.Lists.{same_number}
 use Rattle.core_commit.specs.Turn.{has_port, if_may, leaving, Turns}
 use Rattle.core_commit.proofs.Whole.{turn, turns_over}
 use Rattle.core_watch.specs.Shown.{Shown, behind, CutWithin}
@@ -26,7 +25,7 @@ use Rattle.core_watch.specs.StageItems.{commit_items}
 use Rattle.watched_commit.specs.declared.stage.Committed.{Committed}
 use Rattle.watched_commit.specs.declared.stage.Committed.TheVariants as stage
 use Rattle.watched_commit.specs.Stage as specs
-use Rattle.watched_commit.specs.Stage.{shown_by, exit_by, end_with, budget, stage_items, rows_behind, IsWhole, EndsWith}
+use Rattle.watched_commit.specs.Stage.{shown_by, exit_by, end_with, budget, stage_items, rows_behind, IsWhole}
 use Rattle.watched_commit.proofs.Marks.{NoneAt, count_join, count_none, last_over, items_over, not_yet, front_none}
 use Rattle.watched_commit.proofs.Turn.{Turned, row_turned}
 use Rattle.watched_commit.proofs.Ending.{goes_on, ends_here, all_shown, begins_so}

@@ -1,12 +1,10 @@
 -- A row that commits within the stage.
-use Rattle.std.proofs.Common.{◌≡◌, ℕ, suc, ◌+◌, Bool, true, false, cond, List, [], ◌∷◌, ◌++◌, length, Option, Some, None, refl, sym, ap, ◌∙◌, subst, arith}
+use Rattle.std.proofs.Common.{◌≡◌, ℕ, suc, ◌+◌, true, false, cond, List, [], ◌∷◌, ◌++◌, length, None, sym, ap, ◌∙◌, subst, arith}
 use Rattle.std.specs.Prelude.{◌&&◌, ◌||◌, ◌==◌, is_some, map, count_by}
 use Rattle.std.proofs.lemmas.Bool.{cond-true}
-use Rattle.sim_safe.specs.Step.{Outcome, step_of}
 use Rattle.ruu_core.specs.declared.station.Station.{Station}
 use Rattle.ooo_table.specs.declared.event.Mark.TheVariants as mark
 use Rattle.ooo_table.specs.Row.{Row, is_at, sweep}
-use Rattle.ooo_table.specs.Table.{Setting}
 use Rattle.ooo_table.specs.Path.{execution, is_exit}
 use Rattle.ooo_table.specs.Commit.{commits, commit_row}
 use Rattle.ooo_table.specs.Cycle.{table}
@@ -22,7 +20,7 @@ use Rattle.core_parts.specs.declared.parts.Parts.{Parts}
 use Rattle.core_parts.specs.Rows.{Did}
 use Rattle.core_parts.specs.Stages.{Committing, CommitsAs}
 use Rattle.core_parts.proofs.Lists.{count_take, length_sweep, same_number}
-use Rattle.core_watch.specs.Shown.{Shown, Happened, Committed}
+use Rattle.core_watch.specs.Shown.{Happened, Committed}
 use Rattle.core_watch.specs.StageItems.{commit_items}
 use Rattle.watched_commit.specs.Stage.{shown_by, exit_by, budget}
 use Rattle.watched_commit.proofs.Exits.{Exits, exits_as_told}

@@ -1,5 +1,5 @@
 -- The commit stage of a cycle under a watch: how it ends, what it leaves, and what is shown of it.
-use Rattle.std.specs.Prelude.{◌≡◌, ℕ, ◌+◌, Bool, false, List, [], Option, Some, None, Result, Ok, Err, count_by, ◌==◌, if◌then◌else◌}
+use Rattle.std.specs.Prelude.{◌≡◌, ℕ, ◌+◌, false, List, [], Option, Some, None, Result, Ok, Err, count_by, ◌==◌, if◌then◌else◌}
 use Rattle.event_trace.specs.declared.trace.Trace.{Trace}
 use Rattle.sim_safe.specs.declared.observer.Meaning.{Meaning}
 use Rattle.sim_safe.specs.declared.record.CallNote.{CallNote}
@@ -7,7 +7,6 @@ use Rattle.sim_safe.specs.declared.record.CommitRecord.{CommitRecord}
 use Rattle.sim_safe.specs.Call.{exit_of}
 use Rattle.sim_safe.specs.Observed.{SawCounts, SawWithoutMemory}
 use Rattle.sim_safe.specs.Record.{item_of}
-use Rattle.ruu_core.specs.declared.station.Station.{Station}
 use Rattle.ooo_table.specs.declared.event.EndWord.{EndWord}
 use Rattle.ooo_table.specs.declared.event.EndWord.TheVariants as told
 use Rattle.ooo_table.specs.Row.{Row, is_at}
@@ -18,7 +17,6 @@ use Rattle.ooo_table.specs.Machine.{Given, setting_of}
 use Rattle.ooo_table.specs.MachineLaws.{IsSound}
 use Rattle.ooo_table.specs.RunLaws.{commits_among}
 use Rattle.core_parts.specs.declared.parts.Parts.{Parts}
-use Rattle.core_parts.specs.Fits.{Fits}
 use Rattle.core_parts.specs.Stands.{Stands}
 use Rattle.core_watch.specs.Shown.{Shown, TakesAll, commit_of}
 use Rattle.core_watch.specs.StageItems.{commit_items}

@@ -1,6 +1,5 @@
-use Rattle.std.proofs.Common.{◌≡◌, ℕ, ◌≤◌, refl, sym, ◌∙◌, subst, arith}
+use Rattle.std.proofs.Common.{◌≡◌, refl, sym, ◌∙◌, subst, arith}
 use Rattle.sim_safe.specs.Observed.{Faulted}
-use Rattle.core_watch.specs.Shown.{Shown}
 use Rattle.watched_commit.specs.Stage.{IsWhole}
 use Rattle.watched_commit.proofs.Loop.{within_begin, within_next, ends_rows, ends_shown, cut_shown, whole, whole_shown, used_up}
 use Rattle.watched_commit.proofs.stage.commit_rows.Goals as goal
