@@ -5,6 +5,6 @@ mod Counted
 mod Test
 mod Marked
 mod Stay
-mod Whole
+pub mod Whole
 mod Fitting
 mod Due

@@ -26,7 +26,7 @@ use Rattle.core_parts.specs.Rows.{Placed, pick, Lives}
 use Rattle.core_parts.specs.Stands.{Stands}
 use Rattle.core_parts.specs.Stages.{Committing, CommitsAs, CommitTurn}
 use Rattle.core_parts.proofs.Lists.{and_false, count_skip, count_take, length_sweep, same_number}
-use Rattle.core_commit.specs.Turn.{if_may, may_leave, Leaves, Turns}
+use Rattle.core_commit.specs.Turn.{if_may, may_leave, leaving, Leaves, Turns}
 use Rattle.core_commit.proofs.Partial.{Fit, fit_part}
 use Rattle.core_commit.proofs.Lasts.{ends_in, zip_end, oldest_of}
 use Rattle.core_commit.proofs.Head.{both, in_middle}
@@ -259,3 +259,10 @@ turn g sound c n old new (Some s) fits t =
       subst (λ x. CommitsAs g c x h.row (h.passed ++ older)) it.2.is (commits_as g sound c n old fits younger older k it.0 h it.2.passes),
       committing g sound c n old fits younger older k it.0 h it.2.passes new it.1 (subst (λ x. Leaves c x old new) (sym it.2.is) t.1),
     )
+
+-- where no row commits any more no younger row has a turn
+pub turns_over : (g : Given) → IsSound g → (c n : ℕ) (old : Parts) → Fits c n old → leaving c n old ≡ None → (younger older : List Row) → Committing g c n younger older old
+    → (after_commit (setting_of g) c).rows ≡ younger ++ sweep (commit_row (setting_of g) c) older
+turns_over g sound c n old fits e younger older k =
+    ap (sweep (commit_row (setting_of g) c)) k.rows
+    ∙ swept_still (setting_of g) c younger older (still_now g sound c n old fits younger older k (unit.first old.unit.rows) refl e)

@@ -1,0 +1,5 @@
+pub mod Exits
+pub mod Marks
+pub mod Turn
+pub mod Ending
+pub mod Loop

@@ -1,0 +1,96 @@
+-- The commit stage of a cycle under a watch: how it ends, what it leaves, and what is shown of it.
+use Rattle.std.specs.Prelude.{◌≡◌, ℕ, ◌+◌, false, List, [], Option, Some, None, Result, Ok, Err, count_by, ◌==◌, if◌then◌else◌}
+use Rattle.event_trace.specs.declared.trace.Trace.{Trace}
+use Rattle.sim_safe.specs.declared.observer.Meaning.{Meaning}
+use Rattle.sim_safe.specs.declared.record.CallNote.{CallNote}
+use Rattle.sim_safe.specs.declared.record.CommitRecord.{CommitRecord}
+use Rattle.sim_safe.specs.Call.{exit_of}
+use Rattle.sim_safe.specs.Observed.{SawCounts, SawWithoutMemory}
+use Rattle.sim_safe.specs.Record.{item_of}
+use Rattle.ooo_table.specs.declared.event.EndWord.{EndWord}
+use Rattle.ooo_table.specs.declared.event.EndWord.TheVariants as told
+use Rattle.ooo_table.specs.Row.{Row, is_at}
+use Rattle.ooo_table.specs.Cycle.{table, after_commit}
+use Rattle.ooo_table.specs.Ends.{AtCommit, rows_at, last_commit, end_in}
+use Rattle.ooo_table.specs.Events.{end_word}
+use Rattle.ooo_table.specs.Machine.{Given, setting_of}
+use Rattle.ooo_table.specs.MachineLaws.{IsSound}
+use Rattle.ooo_table.specs.RunLaws.{commits_among}
+use Rattle.core_parts.specs.declared.parts.Parts.{Parts}
+use Rattle.core_parts.specs.Stands.{Stands}
+use Rattle.core_watch.specs.Shown.{Shown, TakesAll, commit_of}
+use Rattle.core_watch.specs.StageItems.{commit_items}
+use Rattle.watched_commit.specs.declared.stage.Committed.{Committed}
+use Rattle.watched_commit.specs.declared.stage.Committed.TheVariants as stage
+
+-- ---- a row that commits
+
+-- what is shown of it: its commit in cycle c, and behind it what it did
+abbrev pub shown_by : Trace → ℕ → ℕ → Option CommitRecord → List Shown
+shown_by trace c row None = []
+shown_by trace c row (Some did) = commit_of c row (item_of trace did)
+
+-- the exit code of a call, if it exits
+abbrev pub exit_noted : Option CallNote → Option ℕ
+exit_noted None = None
+exit_noted (Some note) = exit_of note.kind note.code
+
+abbrev pub exit_by : Option CommitRecord → Option ℕ
+exit_by None = None
+exit_by (Some did) = exit_noted did.call
+
+-- How the stage ends with a row that exits with this code or doesn't, if it does: the row is the n-th that commits in the cycle.
+abbrev pub end_with : Option ℕ → ℕ → ℕ → Option Committed
+end_with (Some code) n most = Some (stage.Exited code)
+end_with None n most = if n == most then Some stage.Spent else None
+
+-- ---- the stage
+
+-- the rows behind the stage, which is whole or ends with the commit of a row
+abbrev pub rows_behind : Given → ℕ → Option ℕ → List Row
+rows_behind g c None = (after_commit (setting_of g) c).rows
+rows_behind g c (Some row) = rows_at (setting_of g) (AtCommit row) c
+
+module _ (g : Given) (c most : ℕ) where
+  -- the commits since the start with which the run ends, where so many may come from cycle c on
+  abbrev pub budget : ℕ
+  budget = commits_among (table (setting_of g) c).rows + most
+
+  -- the number of the row of cycle c whose commit ends the run, if one does
+  abbrev pub last_row : Option ℕ
+  last_row = last_commit (setting_of g) budget c (after_commit (setting_of g) c).rows
+
+  -- what is shown of the stage
+  abbrev pub stage_items : List Shown
+  stage_items = commit_items g c (rows_behind g c last_row)
+
+  -- the stage is whole, and so many rows committed in it
+  pub record IsWhole (n : ℕ) (new : Parts) : Type 0 where
+    pub none : last_row ≡ None
+    pub stands : Stands g c false new (after_commit (setting_of g) c)
+    pub count : count_by (λ r. is_at c r.committed) (after_commit (setting_of g) c).rows ≡ n
+
+  -- the run ends with the commit of this row, and its end is told so
+  pub record EndsWith (row : ℕ) (word : EndWord) (new : Parts) : Type 0 where
+    pub last : last_row ≡ Some row
+    pub ends : end_in (setting_of g) budget c ≡ Some (AtCommit row)
+    pub told : end_word g (AtCommit row) c ≡ word
+    pub stands : Stands g c false new (record (table (setting_of g) c) { rows = rows_at (setting_of g) (AtCommit row) c })
+
+  abbrev pub Leaves : Committed → Parts → Type 0
+  Leaves (stage.All n) new = IsWhole n new
+  Leaves stage.Spent new = (row : ℕ) × EndsWith row told.Budget new
+  Leaves (stage.Exited code) new = (row : ℕ) × EndsWith row (told.Exited code) new
+
+-- what the stage leaves of the parts, over every run whose table they stood for
+abbrev pub CommitsRows : {F : Type 0} → ℕ → ℕ → Parts → Parts → Result Committed F → Type 0
+CommitsRows c most old new (Ok answer) = (g : Given) → IsSound g → Stands g c false old (table (setting_of g) c) → Leaves g c most answer new
+CommitsRows c most old new (Err f) = Unit {0}
+
+-- and what a watch has taken of it, where the run has this trace
+pub record Watched {S F : Type 0} (took cut : S → List Shown → S → Type 0) (faults : S → ℕ × ℕ) (means : F → Meaning) (takes_none : S → Type 0)
+    (trace : Trace) (c most : ℕ) (old : Parts) (before now : S) (answer : Result Committed F) : Type 0 where
+  pub items : (start : S) (h : List Shown) → took start h before → (g : Given) → IsSound g → g.trace ≡ trace → Stands g c false old (table (setting_of g) c)
+      → TakesAll took cut start h (stage_items g c most) now answer
+  pub count : SawCounts means (faults before) (faults now) answer
+  pub memory : takes_none before → SawWithoutMemory takes_none means now answer
