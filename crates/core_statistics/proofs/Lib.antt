@@ -1,0 +1,4 @@
+mod Sums
+mod Marks
+mod Grow
+mod Staged
