@@ -3,7 +3,7 @@ ghost use Rattle.std.specs.Prelude.{◌^◌, ◌<◌, ◌≤◌, IfOk};
 ghost use Rattle.mem_hier.specs.Stands.{references_of};
 ghost use Rattle.ooo_table.specs.Limits.{IsAllowed};
 ghost use Rattle.core_parts.specs.Fits.{Fits};
-ghost use Rattle.core_start.specs.Start.{Starts};
+ghost use Rattle.core_start.specs.Start.{IsSettled, Starts};
 
 use crate::buffers::Buffers;
 use bpred_unit::Predictor;
@@ -15,6 +15,14 @@ use sim_safe::Arch;
 use ss_base::OutOfMemory;
 use std::alloc::Global;
 
+/// The hierarchy, settled.
+fn settled(mut hier: Hier) -> Hier
+    ensures { IsSettled hier result }
+{
+    hier.settle();
+    hier
+}
+
 /// The parts with which a run starts from a state, with a hierarchy, which is settled, and a predictor. They take all the
 /// memory that they will ever need.
 ///
@@ -24,7 +32,7 @@ pub fn start(
     alloc: Global,
     arch: Arch,
     config: &OooConfig,
-    mut hier: Hier,
+    hier: Hier,
     predictor: Predictor,
 ) -> Result<Parts, OutOfMemory>
     requires allowed { IsAllowed config.now }
@@ -40,7 +48,6 @@ pub fn start(
         front,
         overlay,
     } = buffers;
-    hier.settle();
     Ok(Parts {
         config: *config,
         unit,
@@ -48,7 +55,7 @@ pub fn start(
         addresses,
         front,
         pools: Pools::new(config.alus, config.mults, config.ports),
-        hier,
+        hier: settled(hier),
         predictor,
         arch,
         overlay,
