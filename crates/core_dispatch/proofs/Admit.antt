@@ -7,9 +7,10 @@ use Rattle.pisa_isa.specs.Classes.{access_of}
 use Rattle.pisa_isa.specs.Coding.{IsWellFormed}
 use Rattle.pisa_step.specs.declared.cause.Cause.{Cause}
 use Rattle.pisa_step.specs.declared.changes.Changes.{Changes}
+use Rattle.paged_mem.specs.Memory.{IsReserved}
 use Rattle.event_trace.specs.declared.trace.Trace.{Trace}
 use Rattle.sim_safe.specs.declared.record.CommitRecord.{CommitRecord}
-use Rattle.sim_safe.specs.State.{State, state_of, reader_of}
+use Rattle.sim_safe.specs.State.{State, Storage, state_of, reader_of}
 use Rattle.sim_safe.specs.Step.{Outcome, Next, Halt, TakesNoMemory, is_call, step_of}
 use Rattle.lsq_core.specs.Queue as lsq
 use Rattle.lsq_core.specs.Queue.{Entry, Queue}
@@ -26,7 +27,7 @@ use Rattle.core_dispatch.specs.declared.verdict.WrongAct.{WrongAct}
 use Rattle.core_dispatch.specs.declared.verdict.Verdict.{Verdict}
 use Rattle.core_dispatch.specs.declared.verdict.Verdict.TheVariants as verdict
 use Rattle.core_dispatch.specs.Verdict.{Admits, has_access, has_place, head_of, is_empty, right_verdict, wrong_act, wrong_verdict, verdict_at, verdict_of}
-use Rattle.core_dispatch.specs.Turn.{Enters, EntersRight, EntersWrong, FindsMemory, HasRight, HasWrong, MakesAny, TakesEntry, access_in, is_memory, right_station, wrong_station}
+use Rattle.core_dispatch.specs.Turn.{Enters, EntersRight, EntersWrong, FindsMemory, HasRight, HasWrong, Keeps, MakesAny, TakesEntry, access_in, is_memory, right_station, wrong_station}
 use Rattle.core_dispatch.proofs.Entry.{head_is}
 use Rattle.core_dispatch.proofs.Performed.{performs, performed_formed}
 use Rattle.core_dispatch.proofs.Turned.{right_of, wrong_of}
@@ -266,3 +267,15 @@ enters_wrong act c old new head s addr w formed station address l arch over wron
       overlay = over;
       wrong = wrong;
     }
+
+-- ---- what stays of the state
+
+pub keeps_all : (old new : Storage) → new ≡ old → Keeps old new
+keeps_all old new e = subst (Keeps old) (sym e) (record { pages = λ number h. h; text = refl })
+
+pub keeps_same : (old new : Storage) → ((number : ℕ) → IsReserved old.pages number → IsReserved new.pages number) → state_of new ≡ state_of old → Keeps old new
+keeps_same old new pages e = record { pages = pages; text = ap (λ (s : State). s.text) e }
+
+pub keeps_done : (trace : Trace) (old new : Storage) (did : CommitRecord) → ((number : ℕ) → IsReserved old.pages number → IsReserved new.pages number)
+    → Next did (state_of new) ≡ step_of trace (state_of old) → Keeps old new
+keeps_done trace old new did pages e = record { pages = pages; text = (performs trace (state_of old) did (state_of new) (sym e)).text }

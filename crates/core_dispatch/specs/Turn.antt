@@ -162,14 +162,15 @@ HasRight trace c parts = (n : ℕ) × (called : Bool) × (verdict_of trace c n c
 abbrev pub HasWrong : WrongAct → ℕ → Parts → Type 0
 HasWrong act c parts = (trace : Trace) × (n : ℕ) × (called : Bool) × (verdict_of trace c n called parts ≡ verdict.Wrong act)
 
--- no page is given back
-abbrev pub KeepsPages : Storage → Storage → Type 0
-KeepsPages old new = (number : ℕ) → IsReserved old.pages number → IsReserved new.pages number
+-- no page is given back, and the text stays
+pub record Keeps (old new : Storage) : Type 0 where
+  pub pages : (number : ℕ) → IsReserved old.pages number → IsReserved new.pages number
+  pub text : new.text ≡ old.text
 
 -- in cycle c, after n dispatches, of a call among them or of none
 pub record Turns (trace : Trace) (c n : ℕ) (called : Bool) (old new : Parts) (answer : Dispatched) : Type 0 where
   pub turn : TurnBy (verdict_of trace c n called old) trace c old new answer
-  pub pages : KeepsPages old.arch new.arch
+  pub keeps : Keeps old.arch new.arch
 
 -- ---- memory
 

@@ -12,7 +12,7 @@ ghost use Rattle.sim_safe.specs.Step.{TakesNoMemory, step_of};
 ghost use Rattle.core_parts.specs.Addresses.{pushed};
 ghost use Rattle.core_parts.specs.Fits.{Fits};
 ghost use Rattle.core_dispatch.specs.Verdict.{CanAct, CanBeMade};
-ghost use Rattle.core_dispatch.specs.Turn.{right_station, wrong_station, access_in, is_memory, entry_at, entry_of, with_entry, entered_queue, address_at, entered_addresses, TakesEntry, RightTurn, WrongTurn, MakesAny, HasRight, HasWrong, KeepsPages, WantsNone};
+ghost use Rattle.core_dispatch.specs.Turn.{right_station, wrong_station, access_in, is_memory, entry_at, entry_of, with_entry, entered_queue, address_at, entered_addresses, TakesEntry, RightTurn, WrongTurn, MakesAny, HasRight, HasWrong, Keeps, WantsNone};
 
 use crate::verdict::{WrongAct, is_call};
 use core_parts::{Addresses, Dispatched, MemoryRow, Parts};
@@ -191,12 +191,13 @@ fn make(arch: &Arch, overlay: &mut Overlay, changes: &Option<Changes>)
 }
 
 /// The right row is dispatched and does the next step.
+#[tactic(auto, using(crate::proofs::Admit::keeps_done, crate::proofs::Admit::keeps_same))]
 pub fn enter_right(parts: &mut Parts, trace: &Trace, cycle: u64) -> Dispatched
     requires fits { Fits cycle 64 parts.old }
     requires trace { IsRunTrace trace.now }
     requires right { HasRight trace.now cycle parts.old }
     ensures turn { RightTurn trace.now cycle parts.old parts.new result }
-    ensures pages { KeepsPages parts.old.arch parts.new.arch }
+    ensures keeps { Keeps parts.old.arch parts.new.arch }
     ensures memory { TakesNoMemory trace.now parts.old.arch.pages (step_of trace.now (state_of parts.old.arch)) → WantsNone result }
 {
     match parts.arch.step(trace) {
@@ -222,12 +223,13 @@ pub fn enter_right(parts: &mut Parts, trace: &Trace, cycle: u64) -> Dispatched
 }
 
 /// The wrong row is dispatched and acts over the state.
+#[tactic(auto, using(crate::proofs::Admit::keeps_all))]
 pub fn enter_wrong(parts: &mut Parts, act: &WrongAct, cycle: u64) -> Dispatched
     requires fits { Fits cycle 64 parts.old }
     requires wrong { HasWrong act.now cycle parts.old }
     requires can { CanAct act.now }
     ensures turn { WrongTurn act.now cycle parts.old parts.new result }
-    ensures pages { KeepsPages parts.old.arch parts.new.arch }
+    ensures keeps { Keeps parts.old.arch parts.new.arch }
     ensures memory { WantsNone result }
 {
     let head = leave_front(&mut parts.front, cycle);

@@ -11,6 +11,7 @@ use core_parts::{Dispatched, Parts};
 use event_trace::Trace;
 
 /// The turn, over the parts.
+#[tactic(auto, using(crate::proofs::Admit::keeps_all))]
 fn take_turn(
     parts: &mut Parts,
     trace: &Trace,

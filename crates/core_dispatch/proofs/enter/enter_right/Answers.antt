@@ -4,7 +4,7 @@ use Rattle.sim_safe.specs.Step.{outcome_of}
 use Rattle.ruu_core.specs.declared.station.Station.{Station}
 use Rattle.ruu_core.specs.Window.{MayEnter}
 use Rattle.core_dispatch.specs.Turn.{TakesEntry, is_memory}
-use Rattle.core_dispatch.proofs.Admit.{right_no_halt, right_enters, right_takes, enters_right}
+use Rattle.core_dispatch.proofs.Admit.{keeps_done, right_no_halt, right_enters, right_takes, enters_right}
 use Rattle.core_dispatch.proofs.enter.enter_right.Goals as goal
 
 pub unreachable-requires : goal.unreachable-requires
@@ -39,3 +39,8 @@ returns-in-Ok-Did-clause-turn c =
       front = c.leave_front-head.ensures.row;
       number = c.leave_front-head.ensures.number;
     }) refl refl
+
+pub returns-in-Ok-Did-clause-keeps : goal.returns-in-Ok-Did-clause-keeps
+returns-in-Ok-Did-clause-keeps c =
+    keeps_done c.args.trace.now c.args.parts.now.arch c.step.new.self c.in-Ok-Did.did c.step.ensures.pages
+    (sym (ap (λ r. outcome_of r (state_of c.step.new.self)) c.in-Ok-Did.field-0-is) ∙ c.in-Ok-Did.ensures.step.0)
