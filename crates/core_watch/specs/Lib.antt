@@ -1,3 +1,5 @@
 pub mod Shown
+pub mod ShownLaws
 pub mod Items
 pub mod StageItems
+pub mod StageItemsLaws

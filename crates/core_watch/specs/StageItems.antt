@@ -9,7 +9,8 @@ use Rattle.ooo_table.specs.Ends.{happened}
 use Rattle.ooo_table.specs.Events.{by_row, event_at, fetch_mark}
 use Rattle.ooo_table.specs.Machine.{Given, setting_of}
 use Rattle.ooo_table.specs.RunLaws.{recorded_by}
-use Rattle.core_watch.specs.Shown.{Shown, Happened, Committed}
+use Rattle.ooo_table.specs.Cycle.{after_commit, after_recover, after_issue, after_dispatch}
+use Rattle.core_watch.specs.Shown.{Shown, Happened, Committed, events}
 
 module _ (g : Given) (c : ℕ) where
   -- commits, and behind the event of each what its row did
@@ -39,3 +40,12 @@ module _ (g : Given) (c : ℕ) where
 
   abbrev pub fetched_events : List Row → List Event
   fetched_events rows = by_row (λ n r. event_at c (Some r.fetched.at) (fetch_mark r.fetched) n) rows
+
+  -- What a cycle shows that comes to its dispatches: each stage over the rows right behind it, and then what was fetched.
+  abbrev pub staged_items : List Event → List Shown
+  staged_items fetched =
+      commit_items (after_commit (setting_of g) c).rows
+      ++ (events (written_events (after_commit (setting_of g) c).rows)
+      ++ (events (squashed_events (after_recover (setting_of g) c).rows)
+      ++ (events (issued_events (after_issue (setting_of g) c).rows)
+      ++ (events (dispatched_events (after_dispatch (setting_of g) c).rows) ++ events fetched))))

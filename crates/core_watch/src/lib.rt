@@ -12,6 +12,9 @@ mod showing;
 mod tests;
 mod watching;
 
-pub use laws::all_events_are_shown;
+pub use laws::{
+    all_events_are_shown, cycles_show_their_stages, last_commits_show_commits,
+    next_commits_are_shown, stages_show_all_commits,
+};
 pub use showing::{show, show_commit};
 pub use watching::Watch;

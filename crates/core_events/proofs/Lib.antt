@@ -1,0 +1,5 @@
+pub mod Exits
+pub mod Sources
+pub mod Recoveries
+pub mod Completions
+pub mod Commits

@@ -1,0 +1,4 @@
+pub mod Exits
+pub mod Recoveries
+pub mod Completions
+pub mod Commits
