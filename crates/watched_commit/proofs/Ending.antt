@@ -18,7 +18,9 @@ use Rattle.core_parts.specs.Stands.{Stands}
 use Rattle.core_parts.specs.Stages.{committed_up_to}
 use Rattle.core_watch.specs.Shown.{Shown}
 use Rattle.core_watch.specs.StageItems.{commit_items}
-use Rattle.watched_commit.specs.Stage.{shown_by, exit_by, budget, last_row, rows_behind, stage_items, EndsWith}
+use Rattle.core_watch.proofs.Ends.{shown_at_commit}
+use Rattle.core_events.specs.Exits.{exit_by}
+use Rattle.watched_commit.specs.Stage.{shown_by, budget, last_row, rows_behind, stage_items, EndsWith}
 use Rattle.watched_commit.proofs.Marks.{has_committed, marked, joint, find_over, last_within, items_over, items_more}
 use Rattle.watched_commit.proofs.Turn.{Turned}
 
@@ -52,6 +54,7 @@ module _ (g : Given) (c most n : ℕ) (older left : List Row) (r : Row) (rest : 
           told = ap (λ l. exit_word (committed_state (setting_of g) l).ended) (there.rows ∙ ap (λ l. left ++ l) swept)
               ∙ (ap (λ o. exit_word (state_behind (setting_of g) o).ended) (find_over has_committed left (marked c r ∷ rest_now) t.none)
               ∙ (ap exit_word t.code ∙ is));
+          items = ap (λ o. commit_items g c (rows_behind g c o)) there.number ∙ sym (shown_at_commit g c (length rest));
           stands = subst (λ l. Stands g c false new (record (table (setting_of g) c) { rows = l })) (sym there.rows) stands;
         }
 

@@ -1,4 +1,3 @@
-pub mod Exits
 pub mod Marks
 pub mod Turn
 pub mod Ending

@@ -1,5 +1,5 @@
 -- The loop over the rows that commit: what holds between two turns, and what each way out of it gives.
-use Rattle.std.proofs.Common.{◌≡◌, ℕ, suc, ◌+◌, ◌<◌, ◌≤◌, Bool, true, false, cond, List, [], ◌∷◌, ◌++◌, length, Option, Some, None, refl, sym, ap, ◌∙◌, subst, arith, inl, inr, append-nil}
+use Rattle.std.proofs.Common.{◌≡◌, ℕ, suc, ◌+◌, ◌<◌, ◌≤◌, Bool, true, false, cond, List, [], ◌∷◌, ◌++◌, length, Option, Some, None, refl, sym, ap, ◌∙◌, subst, arith, append-nil}
 use Rattle.std.specs.Prelude.{◌&&◌, ◌||◌, ◌==◌, is_some, nat_lt, count_by}
 use Rattle.std.proofs.lemmas.Bool.{ltb-true, false_from_ne_true}
 use Rattle.event_trace.specs.declared.trace.Trace.{Trace}
@@ -21,29 +21,16 @@ use Rattle.core_parts.specs.Stages.{Committing, CommitsOne}
 use Rattle.core_commit.specs.Turn.{has_port, if_may, leaving, Turns}
 use Rattle.core_commit.proofs.Whole.{turn, turns_over}
 use Rattle.core_watch.specs.Shown.{Shown, behind, CutWithin}
+use Rattle.core_watch.specs.ShownLaws.{behind_append, cut_front, cut_back}
 use Rattle.core_watch.specs.StageItems.{commit_items}
 use Rattle.watched_commit.specs.declared.stage.Committed.{Committed}
 use Rattle.watched_commit.specs.declared.stage.Committed.TheVariants as stage
 use Rattle.watched_commit.specs.Stage as specs
-use Rattle.watched_commit.specs.Stage.{shown_by, exit_by, end_with, budget, stage_items, rows_behind, IsWhole}
+use Rattle.core_events.specs.Exits.{exit_by}
+use Rattle.watched_commit.specs.Stage.{shown_by, end_with, budget, stage_items, rows_behind, IsWhole}
 use Rattle.watched_commit.proofs.Marks.{NoneAt, count_join, count_none, last_over, items_over, not_yet, front_none}
 use Rattle.watched_commit.proofs.Turn.{Turned, row_turned}
 use Rattle.watched_commit.proofs.Ending.{goes_on, ends_here, all_shown, begins_so}
-
--- ---- what a watch takes
-
-behind_join : (xs ys h : List Shown) → behind (xs ++ ys) h ≡ behind ys (behind xs h)
-behind_join [] ys h = refl
-behind_join (x ∷ xs) ys h = behind_join xs ys (x ∷ h)
-
-cut_first : {S : Type 0} (cut : S → List Shown → S → Type 0) (start now : S) (h xs ys : List Shown) → CutWithin cut start h xs now → CutWithin cut start h (xs ++ ys) now
-cut_first cut start now h [] ys k = absurd k
-cut_first cut start now h (x ∷ xs) ys (inl k) = inl k
-cut_first cut start now h (x ∷ xs) ys (inr k) = inr (cut_first cut start now (x ∷ h) xs ys k)
-
-cut_then : {S : Type 0} (cut : S → List Shown → S → Type 0) (start now : S) (h xs ys : List Shown) → CutWithin cut start (behind xs h) ys now → CutWithin cut start h (xs ++ ys) now
-cut_then cut start now h [] ys k = k
-cut_then cut start now h (x ∷ xs) ys k = inr (cut_then cut start now (x ∷ h) xs ys k)
 
 -- ---- between two turns
 
@@ -134,7 +121,7 @@ within_next {S = S} took trace c most n old parts new before now after s w fits 
             taken = λ start h t e.
                 subst (λ l. took start l after)
                 (sym (ap (λ l. behind l h) (f.turned.items ∙ ap (λ tr. commit_items g c (sweep (commit_row (setting_of g) c) p.older) ++ shown_by tr c s.row s.commit) e)
-                ∙ behind_join (commit_items g c (sweep (commit_row (setting_of g) c) p.older)) (shown_by trace c s.row s.commit) h))
+                ∙ behind_append (commit_items g c (sweep (commit_row (setting_of g) c) p.older)) (shown_by trace c s.row s.commit) h))
                 (takes start (behind (commit_items g c (sweep (commit_row (setting_of g) c) p.older)) h) (p.taken start h t e));
           };
     }
@@ -190,7 +177,7 @@ module _ {S : Type 0} (took : S → List Shown → S → Type 0) (trace : Trace)
       (sym (ap (λ l. behind l h)
       (all_shown g c most n p.older f.left f.row f.rest s f.turned (ended (exit_by s.commit) (suc n) most end k)
       ∙ ap (λ tr. commit_items g c (sweep (commit_row (setting_of g) c) p.older) ++ shown_by tr c s.row s.commit) same)
-      ∙ behind_join (commit_items g c (sweep (commit_row (setting_of g) c) p.older)) (shown_by trace c s.row s.commit) h))
+      ∙ behind_append (commit_items g c (sweep (commit_row (setting_of g) c) p.older)) (shown_by trace c s.row s.commit) h))
       (takes start (behind (commit_items g c (sweep (commit_row (setting_of g) c) p.older)) h) (p.taken start h t same))
 
   -- the watch was cut within a row
@@ -204,8 +191,8 @@ module _ {S : Type 0} (took : S → List Shown → S → Type 0) (trace : Trace)
       let done : List Shown = commit_items g c (sweep (commit_row (setting_of g) c) p.older) in
       let all : (more : List Shown) × (stage_items g c most ≡ (done ++ shown_by g.trace c s.row s.commit) ++ more) = begins_so g c most n p.older f.left f.row f.rest s f.turned in
       subst (λ l. CutWithin cut start h l after) (sym (all.1 ∙ ap (λ tr. (done ++ shown_by tr c s.row s.commit) ++ all.0) same))
-      (cut_first cut start after h (done ++ shown_by trace c s.row s.commit) all.0
-      (cut_then cut start after h done (shown_by trace c s.row s.commit) (cuts start (behind done h) (p.taken start h t same))))
+      (cut_front cut start (done ++ shown_by trace c s.row s.commit) all.0 h after
+      (cut_back cut start done (shown_by trace c s.row s.commit) h after (cuts start (behind done h) (p.taken start h t same))))
 
 -- ---- no row commits any more
 

@@ -1,9 +1,7 @@
 -- The commits of a cycle among rows: how many, which is the last, and what is shown of them.
 use Rattle.std.proofs.Common.{◌≡◌, ℕ, ◌+◌, ◌≤◌, Bool, true, false, cond, List, [], ◌∷◌, ◌++◌, length, Option, Some, None, refl, sym, ap, ◌∙◌, subst, arith, append-nil}
-use Rattle.std.specs.Prelude.{◌&&◌, ◌||◌, ◌==◌, is_some, map, find, count_by}
+use Rattle.std.specs.Prelude.{◌&&◌, ◌||◌, ◌==◌, is_some, find, count_by}
 use Rattle.std.proofs.lemmas.Bool.{and_parts, eqb-true, eq-eqb, false_from_ne_true}
-use Rattle.sim_safe.specs.Step.{step_of}
-use Rattle.ooo_table.specs.declared.event.Mark.TheVariants as mark
 use Rattle.ooo_table.specs.Row.{Row, is_at, sweep}
 use Rattle.ooo_table.specs.Table.{Setting}
 use Rattle.ooo_table.specs.Path.{is_exit}
@@ -14,14 +12,14 @@ use Rattle.ooo_table.specs.Later.{Each, Where, By, Past}
 use Rattle.ooo_table.specs.Legal.{CommitAllowed, InOrder}
 use Rattle.ooo_table.specs.CycleLaws.{RowFacts}
 use Rattle.ooo_table.specs.Machine.{Given}
-use Rattle.ooo_table.specs.RunLaws.{recorded_by}
 use Rattle.ooo_table.proofs.Marks.{none_of}
 use Rattle.ooo_table.proofs.Deadlines.{each_split}
 use Rattle.ooo_table.proofs.Counts.{past_table}
 use Rattle.ooo_table.proofs.Over.{each_map, not_at}
 use Rattle.core_parts.proofs.Lists.{count_cons, count_skip, count_take, same_number}
-use Rattle.core_watch.specs.Shown.{Shown, Happened, Committed}
+use Rattle.core_watch.specs.Shown.{Shown}
 use Rattle.core_watch.specs.StageItems.{commit_items}
+use Rattle.core_watch.specs.StageItemsLaws.{shown_commit}
 
 abbrev pub has_committed : Row → Bool
 has_committed r = is_some r.committed
@@ -98,14 +96,10 @@ last_within set most c row (y ∷ young) rest n e = by_older (last_commit set mo
 
 -- ---- what is shown
 
--- of a row with this number that commits
-abbrev pub row_items : Given → ℕ → ℕ → Row → List Shown
-row_items g c n r = Happened (record { cycle = c; row = n; mark = mark.Committed }) ∷ map Committed (recorded_by g (step_of g.trace r.fetched.state))
-
 pub items_over : (g : Given) (c : ℕ) (young rest : List Row) → NoneAt c young → commit_items g c (young ++ rest) ≡ commit_items g c rest
 items_over g c [] rest h = refl
 items_over g c (y ∷ young) rest h =
-    ap (λ b. commit_items g c (young ++ rest) ++ cond b (row_items g c (length (young ++ rest)) y) []) h.0
+    ap (λ b. commit_items g c (young ++ rest) ++ cond b (shown_commit g c (length (young ++ rest)) y) []) h.0
     ∙ (append-nil (commit_items g c (young ++ rest)) ∙ items_over g c young rest h.1)
 
 -- behind what is shown of the older rows stands what is shown of the younger ones
@@ -113,7 +107,7 @@ pub items_more : (g : Given) (c : ℕ) (young rest : List Row) → (more : List 
 items_more g c [] rest = ([], sym (append-nil (commit_items g c rest)))
 items_more g c (y ∷ young) rest =
     let ih : (more : List Shown) × (commit_items g c (young ++ rest) ≡ commit_items g c rest ++ more) = items_more g c young rest in
-    let here : List Shown = cond (is_at c y.committed) (row_items g c (length (young ++ rest)) y) [] in
+    let here : List Shown = cond (is_at c y.committed) (shown_commit g c (length (young ++ rest)) y) [] in
     (ih.0 ++ here, ap (λ l. l ++ here) ih.1 ∙ joint (commit_items g c rest) ih.0 here)
 
 -- ---- marks

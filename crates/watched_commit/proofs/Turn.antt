@@ -22,9 +22,11 @@ use Rattle.core_parts.specs.Stages.{Committing, CommitsAs}
 use Rattle.core_parts.proofs.Lists.{count_take, length_sweep, same_number}
 use Rattle.core_watch.specs.Shown.{Happened, Committed}
 use Rattle.core_watch.specs.StageItems.{commit_items}
-use Rattle.watched_commit.specs.Stage.{shown_by, exit_by, budget}
-use Rattle.watched_commit.proofs.Exits.{Exits, exits_as_told}
-use Rattle.watched_commit.proofs.Marks.{has_committed, marked, NoneAt, count_join, count_none, none_counted, last_over, row_items, items_over, right_fresh, count_swept, none_behind, shifted, not_yet, front_none}
+use Rattle.core_watch.specs.StageItemsLaws.{shown_commit}
+use Rattle.core_events.specs.Exits.{exit_by, CommitIsOf}
+use Rattle.core_events.proofs.Exits.{commit_is_of}
+use Rattle.watched_commit.specs.Stage.{shown_by, budget}
+use Rattle.watched_commit.proofs.Marks.{has_committed, marked, NoneAt, count_join, count_none, none_counted, last_over, items_over, right_fresh, count_swept, none_behind, shifted, not_yet, front_none}
 
 -- What the turn of the row r does, behind these rows, of which the older ones had their turns before: it is shown as the
 -- station's row, and it ends the run where it is an exit or the last of the budget.
@@ -92,20 +94,20 @@ module _ (g : Given) (sound : IsSound g) (c most n : ℕ) (younger older left pa
         count_none has_committed left none_left,
       )
 
-  row_exit : Exits g s r
-  row_exit = exits_as_told g s r fresh.0 a.is
+  row_exit : CommitIsOf g c s r
+  row_exit = commit_is_of g c s r fresh.0 a.is
 
   is_the_last : is_last (setting_of g) (budget g c most) c rest_now (marked c r) ≡ (is_some (exit_by s.commit) || (suc n == most))
   is_the_last =
       ap (λ b. b && (is_exit (setting_of g) r || (count_by has_committed (marked c r ∷ rest_now) == budget g c most))) (same_number c)
-      ∙ (ap (λ b. b || (count_by has_committed (marked c r ∷ rest_now) == budget g c most)) row_exit.is
+      ∙ (ap (λ b. b || (count_by has_committed (marked c r ∷ rest_now) == budget g c most)) row_exit.exit
       ∙ ap (λ b. is_some (exit_by s.commit) || b)
       (ap (λ m. m == budget g c most) number ∙ shifted (commits_among (table (setting_of g) c).rows) (suc n) most))
 
-  shown : row_items g c (length rest_now) r ≡ shown_by g.trace c s.row s.commit
+  shown : shown_commit g c (length rest_now) r ≡ shown_by g.trace c s.row s.commit
   shown =
       let d : Did g s r.fetched = a.is.did fresh.0 in
-      ap (λ m. row_items g c m r) (length_sweep (commit_row (setting_of g) c) (passed ++ older) ∙ sym a.number)
+      ap (λ m. shown_commit g c m r) (length_sweep (commit_row (setting_of g) c) (passed ++ older) ∙ sym a.number)
       ∙ (ap (λ o. Happened (record { cycle = c; row = s.row; mark = mark.Committed }) ∷ map Committed (recorded_by g o)) d.step
       ∙ sym (ap (shown_by g.trace c s.row) d.is))
 
@@ -113,8 +115,8 @@ module _ (g : Given) (sound : IsSound g) (c most n : ℕ) (younger older left pa
       ≡ commit_items g c (sweep (commit_row (setting_of g) c) older) ++ shown_by g.trace c s.row s.commit
   all_shown =
       ap (commit_items g c) swept
-      ∙ (ap (λ b. commit_items g c rest_now ++ cond b (row_items g c (length rest_now) r) []) (same_number c)
-      ∙ (ap (λ l. l ++ row_items g c (length rest_now) r) (ap (commit_items g c) split.1 ∙ items_over g c split.0 (sweep (commit_row (setting_of g) c) older) quiet)
+      ∙ (ap (λ b. commit_items g c rest_now ++ cond b (shown_commit g c (length rest_now) r) []) (same_number c)
+      ∙ (ap (λ l. l ++ shown_commit g c (length rest_now) r) (ap (commit_items g c) split.1 ∙ items_over g c split.0 (sweep (commit_row (setting_of g) c) older) quiet)
       ∙ ap (λ l. commit_items g c (sweep (commit_row (setting_of g) c) older) ++ l) shown))
 
   pub row_turned : Turned g c most n older left r (passed ++ older) s

@@ -2,9 +2,7 @@
 use Rattle.std.specs.Prelude.{◌≡◌, ℕ, ◌+◌, false, List, [], Option, Some, None, Result, Ok, Err, count_by, ◌==◌, if◌then◌else◌}
 use Rattle.event_trace.specs.declared.trace.Trace.{Trace}
 use Rattle.sim_safe.specs.declared.observer.Meaning.{Meaning}
-use Rattle.sim_safe.specs.declared.record.CallNote.{CallNote}
 use Rattle.sim_safe.specs.declared.record.CommitRecord.{CommitRecord}
-use Rattle.sim_safe.specs.Call.{exit_of}
 use Rattle.sim_safe.specs.Observed.{SawCounts, SawWithoutMemory}
 use Rattle.sim_safe.specs.Record.{item_of}
 use Rattle.ooo_table.specs.declared.event.EndWord.{EndWord}
@@ -19,6 +17,7 @@ use Rattle.ooo_table.specs.RunLaws.{commits_among}
 use Rattle.core_parts.specs.declared.parts.Parts.{Parts}
 use Rattle.core_parts.specs.Stands.{Stands}
 use Rattle.core_watch.specs.Shown.{Shown, TakesAll, commit_of}
+use Rattle.core_watch.specs.Items.{items_in}
 use Rattle.core_watch.specs.StageItems.{commit_items}
 use Rattle.watched_commit.specs.declared.stage.Committed.{Committed}
 use Rattle.watched_commit.specs.declared.stage.Committed.TheVariants as stage
@@ -29,15 +28,6 @@ use Rattle.watched_commit.specs.declared.stage.Committed.TheVariants as stage
 abbrev pub shown_by : Trace → ℕ → ℕ → Option CommitRecord → List Shown
 shown_by trace c row None = []
 shown_by trace c row (Some did) = commit_of c row (item_of trace did)
-
--- the exit code of a call, if it exits
-abbrev pub exit_noted : Option CallNote → Option ℕ
-exit_noted None = None
-exit_noted (Some note) = exit_of note.kind note.code
-
-abbrev pub exit_by : Option CommitRecord → Option ℕ
-exit_by None = None
-exit_by (Some did) = exit_noted did.call
 
 -- How the stage ends with a row that exits with this code or doesn't, if it does: the row is the n-th that commits in the cycle.
 abbrev pub end_with : Option ℕ → ℕ → ℕ → Option Committed
@@ -70,11 +60,12 @@ module _ (g : Given) (c most : ℕ) where
     pub stands : Stands g c false new (after_commit (setting_of g) c)
     pub count : count_by (λ r. is_at c r.committed) (after_commit (setting_of g) c).rows ≡ n
 
-  -- the run ends with the commit of this row, and its end is told so
+  -- the run ends with the commit of this row, and its end is told so; nothing else is shown of the cycle
   pub record EndsWith (row : ℕ) (word : EndWord) (new : Parts) : Type 0 where
     pub last : last_row ≡ Some row
     pub ends : end_in (setting_of g) budget c ≡ Some (AtCommit row)
     pub told : end_word g (AtCommit row) c ≡ word
+    pub items : stage_items ≡ items_in g (AtCommit row) c c
     pub stands : Stands g c false new (record (table (setting_of g) c) { rows = rows_at (setting_of g) (AtCommit row) c })
 
   abbrev pub Leaves : Committed → Parts → Type 0

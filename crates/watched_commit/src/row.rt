@@ -4,7 +4,8 @@ ghost use Rattle.sim_safe.specs.Call.{exit_of};
 ghost use Rattle.sim_safe.specs.Observed.{SawCounts, SawWithoutMemory};
 ghost use Rattle.sim_safe.specs.Record.{IsRunTrace};
 ghost use Rattle.core_watch.specs.Shown.{Shown, TakesAll};
-ghost use Rattle.watched_commit.specs.Stage.{shown_by, exit_noted, exit_by, end_with};
+ghost use Rattle.core_events.specs.Exits.{exit_by};
+ghost use Rattle.watched_commit.specs.Stage.{shown_by, end_with};
 
 use crate::stage::Committed;
 use core_watch::{Watch, show_commit};
