@@ -3,16 +3,15 @@ use Rattle.std.proofs.Common.{◌≡◌, ℕ, zero, suc, ◌+◌, ◌<◌, ◌�
 use Rattle.std.specs.Prelude.{slice_index}
 use Rattle.std.proofs.lemmas.Bool.{eqb-true, eq-eqb}
 use Rattle.ecoff_load.specs.declared.image.Text.{Text}
-use Rattle.ecoff_load.specs.Object.{IsText}
 use Rattle.event_trace.specs.Grammar.{order_number}
 use Rattle.paged_mem.specs.Memory.{Pages, byte_of}
-use Rattle.sim_safe.specs.State.{Storage, state_of}
+use Rattle.sim_safe.specs.State.{State, Storage, state_of, state_with, HoldsText}
 use Rattle.checkpoint.specs.declared.fault.PointFault.{PointFault}
 use Rattle.checkpoint.specs.declared.fault.PointFault.TheVariants as faults
 use Rattle.checkpoint.specs.declared.fault.PointWhy.TheVariants as why
 use Rattle.checkpoint.specs.declared.point.Head.{Head}
 use Rattle.checkpoint.specs.State.{PointState}
-use Rattle.checkpoint.specs.Held.{state_held, storage_held, IsPointOf, stands, order_place, refused, head_fit, text_fit, first_refusal, fit, HoldsText, Fits}
+use Rattle.checkpoint.specs.Held.{state_held, head_taken, IsPointOf, stands, order_place, refused, head_fit, text_fit, first_refusal, fit, Fits}
 
 -- ---- the bytes of a text
 
@@ -110,15 +109,21 @@ fits_pass p text f =
 pub fit_exactly : (p : PointState) (text : Text) → (fit p text ≡ Ok tt) ↔ Fits p text
 fit_exactly p text = (fit_means p text, fits_pass p text)
 
-pub taken_fits : (m : Storage) (p : PointState) → IsText m.text → IsPointOf m p → HoldsText (byte_of m.pages) m.text → fit p m.text ≡ Ok tt
-taken_fits m p text_fits taken held =
+pub taken_fits : (m : Storage) (p : PointState) → IsPointOf m p → HoldsText (byte_of m.pages) m.text → fit p m.text ≡ Ok tt
+taken_fits m p taken held =
+    let bytes : byte_of p.pages ≡ byte_of m.pages = ap (λ (s : State). s.reads.bytes) taken.state in
     fits_pass p m.text (record {
-      order = taken.state.big;
+      order = ap (λ (s : State). s.reads.big) taken.state;
       start = taken.text_start;
-      size = taken.text_length text_fits;
-      content = λ k lt. ap (λ (f : ℕ → ℕ). f (m.text.start + k)) taken.state.bytes ∙ held k lt;
+      size = taken.text_length;
+      content = λ k lt. ap (λ (f : ℕ → ℕ). f (m.text.start + k)) bytes ∙ held k lt;
     })
 
 -- the state that goes on is the one that the point holds
-pub state_goes_on : (p : PointState) (pages : Pages) (text : Text) → head_fit p.head text ≡ Ok tt → byte_of pages ≡ byte_of p.pages → state_of (storage_held p.head pages text) ≡ state_held p text
-state_goes_on p pages text fits same = rw (same, order_fits p.head text fits) refl
+pub state_goes_on : (p : PointState) (pages : Pages) (regs : List ℕ) (text : Text) → head_fit p.head text ≡ Ok tt → byte_of pages ≡ byte_of p.pages → regs ≡ 0 ∷ p.head.regs
+    → state_with text pages regs p.head.hi p.head.lo p.head.pc p.head.icnt p.head.used p.head.ended ≡ state_held p text
+state_goes_on p pages regs text fits bytes same = rw (bytes, same, order_fits p.head text fits) refl
+
+-- a point that was taken holds the machine's state
+pub state_taken : (m : Storage) (pages : Pages) → byte_of pages ≡ byte_of m.pages → state_held (record { head = head_taken m; pages = pages }) m.text ≡ state_of m
+state_taken m pages bytes = rw bytes refl

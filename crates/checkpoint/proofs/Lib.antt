@@ -10,3 +10,5 @@ pub mod Places
 pub mod Loop
 pub mod Memory
 pub mod Fitting
+pub mod Restarting
+pub mod Registers

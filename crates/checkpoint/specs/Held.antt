@@ -1,10 +1,9 @@
 -- The state that a point holds, and whether a point belongs to an object.
 use Rattle.std.specs.Prelude.{◌≡◌, ◌+◌, ◌<◌, ℕ, Bool, true, ◌&&◌, List, [], ◌∷◌, length, slice_index, Result, Ok, Err, nat_eq, not, if◌then◌else◌}
 use Rattle.ecoff_load.specs.declared.image.Text.{Text}
-use Rattle.ecoff_load.specs.Object.{IsText}
 use Rattle.event_trace.specs.Grammar.{order_number}
-use Rattle.paged_mem.specs.Memory.{Pages, byte_of}
-use Rattle.sim_safe.specs.State.{State, Storage, state_of}
+use Rattle.paged_mem.specs.Memory.{byte_of}
+use Rattle.sim_safe.specs.State.{State, Storage, state_of, HoldsText}
 use Rattle.checkpoint.specs.declared.fault.PointWhy.{PointWhy}
 use Rattle.checkpoint.specs.declared.fault.PointWhy.TheVariants as why
 use Rattle.checkpoint.specs.declared.fault.PointFault.{PointFault}
@@ -31,47 +30,28 @@ state_held p text = record {
   text = text;
 }
 
--- what a machine holds that goes on from a head, with a memory and a text
-abbrev pub storage_held : Head → Pages → Text → Storage
-storage_held h pages text = record {
-  pc = h.pc;
-  regs = h.regs;
-  hi = h.hi;
-  lo = h.lo;
-  pages = pages;
-  icnt = h.icnt;
-  used = h.used;
-  ended = h.ended;
-  text = text;
-}
-
--- two states are the same: pc, the 32 registers, HI, LO, memory, byte order, counts, exit code and text
-pub record IsSameState (s t : State) : Type 0 where
-  pub pc : s.pc ≡ t.pc
-  pub regs : (r : ℕ) → r < 32 → s.reads.regs r ≡ t.reads.regs r
-  pub hi : s.reads.hi ≡ t.reads.hi
-  pub lo : s.reads.lo ≡ t.reads.lo
-  pub bytes : s.reads.bytes ≡ t.reads.bytes
-  pub big : s.reads.big ≡ t.reads.big
-  pub icnt : s.icnt ≡ t.icnt
-  pub used : s.used ≡ t.used
-  pub ended : s.ended ≡ t.ended
-  pub text : s.text ≡ t.text
-
 -- the head of a point of version 2 of a machine
-pub record IsHeadOf (m : Storage) (h : Head) : Type 0 where
-  pub version : h.version ≡ 2
-  -- with a memory that reads as the machine's it is the machine's state
-  pub state : (pages : Pages) → byte_of pages ≡ byte_of m.pages → IsSameState (state_held (record { head = h; pages = pages }) m.text) (state_of m)
-  pub text_start : h.text_start ≡ m.text.start
-  pub text_length : IsText m.text → h.text_length ≡ length m.text.bytes
+abbrev pub head_taken : Storage → Head
+head_taken m = record {
+  version = 2;
+  big = m.text.big;
+  icnt = m.icnt;
+  pc = m.pc;
+  regs = m.regs;
+  hi = m.hi;
+  lo = m.lo;
+  used = m.used;
+  ended = m.ended;
+  text_start = m.text.start;
+  text_length = length m.text.bytes;
+}
 
 -- a point of version 2 of a machine: the machine's state, and where the text of the machine's program lies
 pub record IsPointOf (m : Storage) (p : PointState) : Type 0 where
   pub version : p.head.version ≡ 2
-  pub state : IsSameState (state_held p m.text) (state_of m)
+  pub state : state_held p m.text ≡ state_of m
   pub text_start : p.head.text_start ≡ m.text.start
-  pub text_length : IsText m.text → p.head.text_length ≡ length m.text.bytes
+  pub text_length : p.head.text_length ≡ length m.text.bytes
 
 -- ---- the object
 
@@ -112,10 +92,6 @@ fit p text = first_refusal (head_fit p.head text) (text_fit (byte_of p.pages) te
 abbrev pub IsRefusal : Result (Unit {0}) PointFault → PointFault → Type 0
 IsRefusal checks faults.OutOfMemory = Unit {0}
 IsRefusal checks (faults.Bad at reason) = checks ≡ Err (faults.Bad at reason)
-
--- each byte of a text stands at its place in memory
-abbrev pub HoldsText : (ℕ → ℕ) → Text → Type 0
-HoldsText memory text = (k : ℕ) → k < length text.bytes → memory (text.start + k) ≡ slice_index text.bytes k
 
 -- a point is one of a program with this text: byte order, where the text lies, and its bytes
 pub record Fits (p : PointState) (text : Text) : Type 0 where

@@ -2,4 +2,4 @@ pub mod State
 pub mod Grammar
 pub mod Reading
 pub mod Held
-pub mod Restored
+pub mod Restart

@@ -1,18 +1,16 @@
-//! Going on from a point: whether it belongs to an object, and what the machine then holds.
-ghost use Rattle.std.specs.Prelude.{◌≡◌, ◌+◌, ◌*◌, ◌^◌, ◌<◌, ◌≤◌, ◌↔◌, ℕ, length, IfOk, IfErr, OnOk, Ok};
-ghost use Rattle.ecoff_load.specs.declared.image.Text.{Text};
+//! Going on from a point: whether it belongs to an object, and the machine that goes on.
+ghost use Rattle.std.specs.Prelude.{◌≡◌, ◌+◌, ◌*◌, ◌^◌, ◌<◌, ◌≤◌, ◌∷◌, ℕ, length, IfOk, IfErr, OnOk, Ok};
 ghost use Rattle.ecoff_load.specs.Object.{IsText, IsImage};
 ghost use Rattle.paged_mem.specs.Memory.{byte_of, overlaid};
 ghost use Rattle.checkpoint.specs.Grammar.{ArePages};
-ghost use Rattle.sim_safe.specs.State.{Storage, state_of};
-ghost use Rattle.checkpoint.specs.State.{PointState};
-ghost use Rattle.checkpoint.specs.Held.{IsPointOf, stands, order_place, head_fit, text_fit, fit, state_held, storage_held, IsRefusal, HoldsText, Fits};
-ghost use Rattle.checkpoint.specs.Restored.{storage_of};
+ghost use Rattle.sim_safe.specs.State.{state_of, state_with, HoldsText};
+ghost use Rattle.checkpoint.specs.Held.{stands, order_place, head_fit, text_fit, fit, state_held, IsRefusal};
 
 use crate::fault::{PointFault, PointWhy};
 use crate::point::{Head, Page, Point};
 use ecoff_load::{Image, Text};
 use paged_mem::{PAGE_SIZE, PagedMem};
+use sim_safe::Arch;
 use ss_base::OutOfMemory;
 use std::alloc::Global;
 
@@ -103,52 +101,45 @@ fn memory(alloc: Global, pages: &[Page]) -> Result<PagedMem, OutOfMemory>
     Ok(mem)
 }
 
-/// All that a machine holds that goes on from a point.
-#[derive(Drop)]
-pub struct Restored {
-    /// The text of the object.
-    pub text: Text,
-    /// The memory, with the text's bytes in it.
-    pub mem: PagedMem,
-    /// Registers 1 to 31. Register 0 is 0.
-    pub regs: [u32; 31],
-    pub hi: u32,
-    pub lo: u32,
-    /// The address of the next instruction.
-    pub pc: u32,
-    /// How many instructions were done.
-    pub icnt: u64,
-    /// How many recorded calls were used.
-    pub used: u32,
-    /// The exit code, `None` before an exit.
-    pub ended: Option<u32>,
+/// Registers 0 to 31.
+fn registers(head: &Head) -> [u32; 32]
+    ensures { result ≡ 0 ∷ head.now.regs }
+{
+    let mut regs = [0; 32];
+    regs[1..].copy_from_slice(&head.regs);
+    regs
 }
 
-/// What a machine goes on with, of a head that belongs to the text and of its memory.
-fn resumed(head: Head, mem: PagedMem, text: Text) -> Restored
-    ensures { storage_of result ≡ storage_held head mem text }
+/// The machine of a head that belongs to the text, with its memory. The text is decoded.
+fn machine(alloc: Global, head: &Head, mem: PagedMem, text: Text) -> Result<Arch, OutOfMemory>
+    requires text { IsText text }
+    requires content { HoldsText (byte_of mem) text }
+    ensures { IfOk result (λ a. state_of a ≡ state_with text mem (0 ∷ head.now.regs) head.now.hi head.now.lo head.now.pc head.now.icnt head.now.used head.now.ended) }
 {
-    let regs = head.regs;
-    Restored {
+    let mut arch = Arch::resume(
+        alloc,
         text,
         mem,
-        regs,
-        hi: head.hi,
-        lo: head.lo,
-        pc: head.pc,
-        icnt: head.icnt,
-        used: head.used,
-        ended: head.ended,
-    }
+        registers(head),
+        head.hi,
+        head.lo,
+        head.pc,
+        head.icnt,
+        head.used,
+        head.ended,
+    );
+    arch.decode_text(alloc)?;
+    Ok(arch)
 }
 
-/// What a machine goes on with from a point of the object's program. Refused is a point of the other
-/// byte order, with a text elsewhere or of another length, or whose text has other bytes.
-pub fn unpack(alloc: Global, p: Point, image: Image) -> Result<Restored, PointFault>
+/// The machine that goes on from a point of the object's program, in the state that the point holds
+/// and with the object's text. Refused is a point of the other byte order, with a text elsewhere or of
+/// another length, or whose text has other bytes.
+pub fn restore(alloc: Global, p: Point, image: Image) -> Result<Arch, PointFault>
     requires { IsImage image }
-    ensures state { IfOk result (λ r. state_of (storage_of r) ≡ state_held p image.text) }
+    ensures state { IfOk result (λ a. state_of a ≡ state_held p image.text) }
     ensures fits { OnOk result (fit p image.text ≡ Ok tt) }
-    ensures text { IfOk result (λ r. HoldsText (byte_of r.mem) r.text) }
+    ensures text { IfOk result (λ a. HoldsText (byte_of a.pages) a.text) }
     ensures fault { IfErr result (IsRefusal (fit p image.text)) }
 {
     let Image {
@@ -166,18 +157,11 @@ pub fn unpack(alloc: Global, p: Point, image: Image) -> Result<Restored, PointFa
         Err(_) => return Err(PointFault::OutOfMemory),
     };
     match judge_text(&mem, &text) {
-        Ok(()) => Ok(resumed(head, mem, text)),
-        Err(fault) => Err(fault),
+        Ok(()) => {}
+        Err(fault) => return Err(fault),
+    }
+    match machine(alloc, &head, mem, text) {
+        Ok(arch) => Ok(arch),
+        Err(_) => Err(PointFault::OutOfMemory),
     }
 }
-
-/// No check of a point with an object fails exactly where the point has the object's byte order and text.
-pub fn checks_are_exact()
-    ensures { (p : PointState) (text : Text) → (fit p text ≡ Ok tt) ↔ Fits p text }
-{}
-
-/// A point that was taken of a machine belongs to each object with the machine's text, where the bytes
-/// of the text stand in the machine's memory.
-pub fn taken_points_fit()
-    ensures { (m : Storage) (p : PointState) → IsText m.text → IsPointOf m p → HoldsText (byte_of m.pages) m.text → fit p m.text ≡ Ok tt }
-{}

@@ -1,10 +1,9 @@
 //! Taking a point of a machine.
-ghost use Rattle.std.specs.Prelude.{◌≡◌, ◌+◌, ◌*◌, ◌^◌, ◌<◌, ◌≤◌, ℕ, length, slice_index, IfOk};
+ghost use Rattle.std.specs.Prelude.{◌≡◌, ◌+◌, ◌*◌, ◌^◌, ◌<◌, ◌≤◌, ℕ, length, drop, slice_index, IfOk};
 ghost use Rattle.std.specs.List.{AllByRecursion};
 ghost use Rattle.paged_mem.specs.Memory.{byte_of, HasByte};
-ghost use Rattle.sim_safe.specs.State.{reader_of};
 ghost use Rattle.checkpoint.specs.Grammar.{IsCode, IsHead, ArePages};
-ghost use Rattle.checkpoint.specs.Held.{IsHeadOf, IsPointOf};
+ghost use Rattle.checkpoint.specs.Held.{head_taken, IsPointOf};
 
 use crate::point::{Head, Page, Point};
 use ecoff_load::Text;
@@ -52,17 +51,25 @@ fn pages_of(alloc: Global, mem: &PagedMem) -> Result<Vec<Page>, OutOfMemory>
     Ok(pages)
 }
 
-/// Registers 1 to 31.
-fn registers(arch: &Arch) -> [u32; 31]
+/// All registers but register 0.
+fn behind_zero(all: &[u32; 32]) -> [u32; 31]
+    ensures same { result ≡ drop 1 all.now }
     ensures count { length result ≡ 31 }
     ensures below { AllByRecursion (λ r. r < 2 ^ 32) result }
-    ensures each { (k : ℕ) → k < 31 → slice_index result k ≡ (reader_of arch.now).regs (k + 1) }
 {
     let mut regs = [0; 31];
-    for k in 0..31 {
-        regs[k] = arch.reg(k as u8 + 1);
-    }
+    regs.copy_from_slice(&all[1..]);
     regs
+}
+
+/// Registers 1 to 31.
+fn registers(arch: &Arch) -> [u32; 31]
+    ensures same { result ≡ arch.now.regs }
+    ensures count { length result ≡ 31 }
+    ensures below { AllByRecursion (λ r. r < 2 ^ 32) result }
+{
+    let all = arch.registers();
+    behind_zero(&all)
 }
 
 /// An exit code as it stands.
@@ -83,10 +90,10 @@ fn start(text: &Text) -> u32
     text.start
 }
 
-/// All but the pages. The text of an object has far fewer than 2^32 bytes.
+/// All but the pages.
 fn head(arch: &Arch) -> Head
     ensures fits { IsHead result }
-    ensures state { IsHeadOf arch.now result }
+    ensures state { result ≡ head_taken arch.now }
 {
     let text = arch.text();
     let regs = registers(arch);
@@ -101,7 +108,7 @@ fn head(arch: &Arch) -> Head
         used: arch.used(),
         ended: exit_code(arch.ended()),
         text_start: start(text),
-        text_length: text.bytes.as_slice().len().min(u32::MAX as usize) as u32,
+        text_length: text.bytes.as_slice().len() as u32,
     }
 }
 

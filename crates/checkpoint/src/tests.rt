@@ -3,6 +3,7 @@ ghost use Rattle.std.specs.Prelude.{◌^◌, ◌≤◌};
 use crate::*;
 use ecoff_load::{Image, Parts, Text};
 use event_trace::Trace;
+use pisa_step::Machine;
 use sim_safe::{Arch, Stepped};
 use ss_base::Bytes;
 use std::alloc::{AllocError, Global};
@@ -285,33 +286,41 @@ fn machine(alloc: Global, steps: u32) -> Option<Arch> {
     Some(arch)
 }
 
-/// Whether the point that is taken after so many steps is written as these bytes.
-fn is_taken(alloc: Global, steps: u32, bytes: &[u8]) -> bool {
-    let Some(arch) = machine(alloc, steps) else {
-        return false;
-    };
-    if arch.icnt() > 100 {
+/// Whether the point that is taken of a machine is written as these bytes.
+fn is_written_of(alloc: Global, arch: &Arch, bytes: &[u8]) -> bool {
+    if arch.icnt() > 1000 {
         return false;
     }
-    match take(alloc, &arch) {
+    match take(alloc, arch) {
         Ok(point) => is_written(alloc, &point, bytes),
         Err(_) => false,
     }
 }
 
-/// Whether a point is taken after the first instruction, and after the exit with code 7.
-fn points_are_taken(alloc: Global) -> bool {
-    let Ok(first) = second(alloc, 0) else {
-        return false;
-    };
-    let Ok(mut last) = second(alloc, 0) else {
-        return false;
-    };
+/// Whether the point that is taken after so many steps is written as these bytes.
+fn is_taken(alloc: Global, steps: u32, bytes: &[u8]) -> bool {
+    match machine(alloc, steps) {
+        Some(arch) => is_written_of(alloc, &arch, bytes),
+        None => false,
+    }
+}
+
+/// The file of the point after the exit with code 7.
+fn exited(alloc: Global) -> Result<Vec<u8>, AllocError> {
+    let mut bytes = second(alloc, 0)?;
     for (place, byte) in [(8, 3), (16, 0x18), (36, 7), (160, 1), (164, 7)] {
-        if let Some(slot) = last.get_mut(place) {
+        if let Some(slot) = bytes.get_mut(place) {
             *slot = byte;
         }
     }
+    Ok(bytes)
+}
+
+/// Whether a point is taken after the first instruction, and after the exit with code 7.
+fn points_are_taken(alloc: Global) -> bool {
+    let (Ok(first), Ok(last)) = (second(alloc, 0), exited(alloc)) else {
+        return false;
+    };
     let sizes = (first.len() == 8384) & (last.len() == 8384);
     sizes & is_taken(alloc, 1, first.as_slice()) & is_taken(alloc, 3, last.as_slice())
 }
@@ -322,29 +331,35 @@ fn points_of_a_run_are_taken(rt: HostRuntime) {
 }
 
 /// What comes of the point in a file with an object. None where one of them can't be had.
-fn unpacked(alloc: Global, bytes: &[u8], image: Image) -> Option<Result<Restored, PointFault>> {
+fn restored(alloc: Global, bytes: &[u8], image: Image) -> Option<Result<Arch, PointFault>> {
     if !image.fits() {
         return None;
     }
     match read(alloc, bytes) {
-        Ok(point) => Some(unpack(alloc, point, image)),
+        Ok(point) => Some(restore(alloc, point, image)),
         Err(_) => None,
+    }
+}
+
+/// The machine that goes on from the point in a file with the program's own object.
+fn own(alloc: Global, bytes: &[u8]) -> Option<Arch> {
+    let image = image(alloc, false, 0x0040_0000, &TEXT[4..])?;
+    match restored(alloc, bytes, image) {
+        Some(Ok(arch)) => Some(arch),
+        _ => None,
     }
 }
 
 /// Whether a machine goes on from the kept point with the program's own object.
 fn goes_on(alloc: Global, bytes: &[u8]) -> bool {
-    let Some(image) = image(alloc, false, 0x0040_0000, &TEXT[4..]) else {
-        return false;
-    };
-    match unpacked(alloc, bytes, image) {
-        Some(Ok(restored)) => {
-            let regs = (restored.regs[1] == 1) & (restored.regs[28] == 0x7fff_8000);
-            let rest = (restored.pc == 0x0040_0008) & (restored.icnt == 1) & (restored.used == 0);
-            let mem = restored.mem.byte(0x0040_0004) == 1;
-            regs & rest & mem & (restored.mem.byte(0x7fff_8010) == 112) & restored.ended.is_none()
+    match own(alloc, bytes) {
+        Some(arch) => {
+            let regs = (arch.reg(2) == 1) & (arch.reg(29) == 0x7fff_8000);
+            let rest = (arch.pc() == 0x0040_0008) & (arch.icnt() == 1) & (arch.used() == 0);
+            let mem = (arch.byte(0x0040_0004) == 1) & (arch.byte(0x7fff_8010) == 112);
+            regs & rest & mem & arch.ended().is_none()
         }
-        _ => false,
+        None => false,
     }
 }
 
@@ -360,7 +375,7 @@ fn object_is_refused(
     let Some(image) = image(alloc, big, start, text) else {
         return false;
     };
-    match unpacked(alloc, bytes, image) {
+    match restored(alloc, bytes, image) {
         Some(Err(fault)) => fault == PointFault::Bad { at, why },
         _ => false,
     }
@@ -418,4 +433,49 @@ fn objects_are_judged(alloc: Global) -> bool {
 #[test]
 fn points_are_judged_with_objects(rt: HostRuntime) {
     assert!(rt; objects_are_judged(rt.alloc()));
+}
+
+/// From which file a machine goes on, for how many further instructions, how many it does, and whether
+/// it then stands at the exit.
+const RUNS: [(u8, u64, u64, bool); 5] = [
+    (1, 0, 0, false),
+    (1, 1, 1, false),
+    (1, 2, 2, true),
+    (1, 9, 2, true),
+    (3, 9, 0, true),
+];
+
+/// Whether so many of so many steps are done from the point in a file, and the point that is taken then
+/// is written as the one of the exit, or not.
+fn is_rest(alloc: Global, bytes: &[u8], last: &[u8], run: (u8, u64, u64, bool)) -> bool {
+    let (_, steps, wanted, at_exit) = run;
+    let Some(mut arch) = own(alloc, bytes) else {
+        return false;
+    };
+    if arch.icnt() > 100 || steps > 100 {
+        return false;
+    }
+    let Ok(done) = arch.skip(&Trace::absent(alloc), steps) else {
+        return false;
+    };
+    (done == wanted) & (is_written_of(alloc, &arch, last) == at_exit)
+}
+
+/// Whether runs that go on from the point after one instruction, and from the one of the exit, are the
+/// rest of the run.
+fn runs_go_on_from_points(alloc: Global) -> bool {
+    let (Ok(first), Ok(last)) = (second(alloc, 0), exited(alloc)) else {
+        return false;
+    };
+    let (first, last) = (first.as_slice(), last.as_slice());
+    let mut all = true;
+    for run in RUNS {
+        all = all & is_rest(alloc, if run.0 == 1 { first } else { last }, last, run);
+    }
+    all
+}
+
+#[test]
+fn runs_from_points_are_the_rest(rt: HostRuntime) {
+    assert!(rt; runs_go_on_from_points(rt.alloc()));
 }
