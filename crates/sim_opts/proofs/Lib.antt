@@ -10,3 +10,8 @@ pub mod Walking
 pub mod Grammar
 pub mod Saying
 pub mod Order
+pub mod Configured
+pub mod LineWords
+pub mod Configuring
+pub mod LineGrammar
+pub mod Together

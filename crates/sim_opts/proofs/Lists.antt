@@ -71,7 +71,7 @@ abbrev pub one_if : Bool → ℕ
 one_if true = 1
 one_if false = 0
 
-counted_one : {Y : Type 0} (p : Y → Bool) (y : Y) (b : Bool) → p y ≡ b → length (filter p (y ∷ [])) ≡ one_if b
+pub counted_one : {Y : Type 0} (p : Y → Bool) (y : Y) (b : Bool) → p y ≡ b → length (filter p (y ∷ [])) ≡ one_if b
 counted_one p y true e = ap (λ (t : Bool). length (if t then y ∷ [] else [])) e
 counted_one p y false e = ap (λ (t : Bool). length (if t then y ∷ [] else [])) e
 

@@ -60,7 +60,7 @@ pub table_length : (xs : List KeptRow) → map row_in xs ≡ table → length xs
 table_length xs e = sym (length-map xs row_in) ∙ ap length e
 
 -- options keep the command
-tool_stays : (a : Said) (settings : List Setting) → (with_settings a settings).tool ≡ a.tool
+pub tool_stays : (a : Said) (settings : List Setting) → (with_settings a settings).tool ≡ a.tool
 tool_stays a [] = refl
 tool_stays a (s ∷ later) = tool_stays (with_setting a s) later
 

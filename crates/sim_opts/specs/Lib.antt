@@ -8,3 +8,5 @@ pub mod Settings
 pub mod Words
 pub mod Kept
 pub mod Options
+pub mod Configuration
+pub mod Lines

@@ -1,13 +1,16 @@
 //! What follows from the definitions, each law as the contract of a function that does nothing.
-ghost use Rattle.std.specs.Prelude.{◌≡◌, ℕ, ◌^◌, ◌≤◌, ◌++◌, ◌∷◌, [], Bool, false, List, length, None, decimal, Some, Ok, Err, ◌↔◌, ◌⊎◌};
+ghost use Rattle.std.specs.Prelude.{◌≡◌, ℕ, ◌^◌, ◌≤◌, ◌++◌, ◌∷◌, [], Bool, true, false, List, length, None, decimal, Some, Ok, Err, ◌↔◌, ◌⊎◌};
 ghost use Rattle.ecoff_load.specs.Start.{block};
 ghost use Rattle.sim_opts.specs.Word.{number_of, start_block_length};
 ghost use Rattle.sim_opts.specs.Request.{Request, HasShape};
 ghost use Rattle.sim_opts.specs.Reading.{request_of};
 ghost use Rattle.sim_opts.specs.declared.table.Tool.{Tool};
-ghost use Rattle.sim_opts.specs.Table.{tool_name};
-ghost use Rattle.sim_opts.specs.Settings.{Setting, of_option, count, written, AreSettings};
-ghost use Rattle.sim_opts.specs.Options.{said_by};
+ghost use Rattle.ss_base.specs.declared.text_fault.TextWhy.{TextWhy};
+ghost use Rattle.ss_base.specs.declared.text_fault.AsmFault.TheVariants as faults;
+ghost use Rattle.sim_opts.specs.Table.{Row, tool_name, row_named};
+ghost use Rattle.sim_opts.specs.Settings.{Setting, of_option, count, is_given, written, AreSettings};
+ghost use Rattle.sim_opts.specs.Options.{said_by, given_in};
+ghost use Rattle.sim_opts.specs.Configuration.{AreLines, IsWrongLine, read_lines, with_configuration, together};
 ghost use Rattle.sim_opts.specs.Words.{Asks, asks, Ask, IsFirstWrong, begins_with_option, operands_fault, read};
 ghost use Rattle.sim_opts.specs.declared.words.Wrong.{Wrong};
 
@@ -83,4 +86,34 @@ pub fn written_options_are_read_back()
     ensures { (tool : Tool) (settings : List Setting) (operands : List (List ℕ))
         → AreSettings tool [] settings → begins_with_option operands ≡ false → operands_fault tool settings operands ≡ None
         → read (tool_name tool ∷ (written settings ++ operands)) ≡ Ok (asks tool settings operands) }
+{}
+
+/// Lines of a configuration are read as saying options exactly where the grammar says that they do.
+pub fn configurations_are_read_by_the_grammar()
+    ensures { (tool : Tool) (lines : List (List ℕ)) (settings : List Setting)
+        → AreLines tool [] lines settings ↔ (read_lines tool 1 [] lines ≡ Ok settings) }
+{}
+
+/// Lines of a configuration are refused at a line for a reason exactly where the grammar says that this
+/// is the first wrong line and its reason.
+pub fn configurations_are_refused_at_the_first_wrong_line()
+    ensures { (tool : Tool) (lines : List (List ℕ)) (number : ℕ) (reason : TextWhy)
+        → IsWrongLine tool lines number reason ↔ (read_lines tool 1 [] lines ≡ Err (faults.Bad number reason)) }
+{}
+
+/// A configuration says what words would that have its options behind their own, without those that
+/// the words have.
+pub fn a_configuration_says_what_words_would()
+    ensures { (tool : Tool) (operands : List (List ℕ)) (words lines : List Setting)
+        → with_configuration (said_by (asks tool words operands)) lines
+        ≡ record (said_by (asks tool (together words lines) operands)) { given = given_in words } }
+{}
+
+/// Of an option that stands among the words, what the words say holds; of one that does not, what the
+/// configuration says.
+pub fn an_option_among_the_words_wins()
+    ensures words { (words lines : List Setting) (name : List ℕ) (row : Row) → row_named name ≡ Some row
+        → is_given row.number words ≡ true → of_option row.number (together words lines) ≡ of_option row.number words }
+    ensures configuration { (words lines : List Setting) (number : ℕ)
+        → is_given number words ≡ false → of_option number (together words lines) ≡ of_option number lines }
 {}

@@ -8,6 +8,9 @@
 #![tactic(auto)]
 
 mod asked;
+mod configuration;
+#[cfg(test)]
+mod configuration_tests;
 mod laws;
 mod names;
 mod options;
@@ -23,8 +26,11 @@ mod words;
 mod words_tests;
 
 pub use asked::{WordFault, clash, is_unbuilt, read_words};
+pub use configuration::read_config;
 pub use laws::{
-    a_limit_that_is_left_out_has_its_default, numbers_have_one_word,
+    a_configuration_says_what_words_would, a_limit_that_is_left_out_has_its_default,
+    an_option_among_the_words_wins, configurations_are_read_by_the_grammar,
+    configurations_are_refused_at_the_first_wrong_line, numbers_have_one_word,
     requests_are_read_by_their_shape, start_blocks_have_their_length,
     the_order_of_options_says_nothing, words_are_read_by_the_grammar,
     words_are_refused_at_the_first_wrong_place, words_ask_for_one_thing_at_most,

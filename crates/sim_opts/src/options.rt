@@ -1,8 +1,10 @@
 //! What words and a configuration say about a command.
-ghost use Rattle.std.specs.Prelude.{◌≡◌, ◌<◌, ◌++◌, [], map, get_or, string_bytes, OnOk, IfOk, Some};
+ghost use Rattle.std.specs.Prelude.{◌≡◌, ◌<◌, ◌++◌, ◌∷◌, [], map, get_or, string_bytes, OnOk, IfOk, Some, nat_eq};
+ghost use Rattle.std.specs.List.{list_any};
 ghost use Rattle.arrayvec.specs.ArrayVec.{array_vec_len};
 ghost use Rattle.sim_opts.specs.Kept.{setting_in, asks_in};
 ghost use Rattle.sim_opts.specs.Options.{said_in, said_with, first_value, last_number, with_settings, nothing_said, said_behind, given_in, kept_if, said_by};
+ghost use Rattle.sim_opts.specs.Configuration.{with_configuration};
 
 use crate::names::Names;
 use crate::table::{Tool, table};
@@ -131,6 +133,13 @@ fn kept(given: ArrayVec<u8, 64>, number: u8, is_kept: bool) -> ArrayVec<u8, 64>
     given
 }
 
+/// Whether a number is among others.
+fn stands(numbers: &[u8], number: u8) -> bool
+    ensures { result ≡ list_any (λ n. nat_eq n number) numbers.now }
+{
+    numbers.iter().any(|n| *n == number)
+}
+
 /// What words say that ask for this.
 pub(crate) fn options_of(alloc: Global, reading: Reading<'_>) -> Result<Options, OutOfMemory>
     ensures { IfOk result (λ o. said_in o ≡ said_by (asks_in reading.entry)) }
@@ -209,6 +218,26 @@ impl Options {
             11 => self.files.add(alloc, text),
             _ => Ok(()),
         }
+    }
+
+    /// Sets the field of an option in a configuration, unless it stood among the words.
+    pub(crate) fn configure(
+        &mut self,
+        alloc: Global,
+        setting: &Setting<'_>,
+    ) -> Result<(), OutOfMemory>
+        ensures { OnOk result (said_in self.new ≡ with_configuration (said_in self.old) (setting_in setting.now ∷ [])) }
+    {
+        if stands(self.given.as_slice(), setting.option.number) {
+            return Ok(());
+        }
+        self.set(
+            alloc,
+            setting.option.number,
+            first_value(setting.values),
+            last_number(setting.values),
+        )?;
+        Ok(())
     }
 
     /// Sets the fields of options.

@@ -10,8 +10,8 @@ use crate::values::{ValueWhy, value_fault};
 use crate::word::{begins_with_dash, fits_start_block};
 use std::alloc::Global;
 
-/// Why words are wrong at their first wrong place. Of several reasons at one place the one that
-/// stands first here is told.
+/// Why words are wrong at their first wrong place. Of two reasons at one place, only a missing object
+/// and a missing `-o` can stand together, and the object's is told.
 #[derive(Clone, Copy, Debug, PartialEq, Eq)]
 pub enum WordWhy {
     /// There is no word.
@@ -38,7 +38,8 @@ pub enum WordWhy {
     Extra,
     /// The start block of the object and its arguments is too long.
     TooLong,
-    /// The options clash.
+    /// Two files that are written have one name. Reading words never tells it: `clash` does, of what
+    /// words and a configuration say together.
     Clash,
 }
 

@@ -6,7 +6,7 @@ use ss_base::Name;
 use std::alloc::{AllocError, Global};
 
 /// The words of a line, which one blank parts: where two stand together, there is an empty word.
-fn words_of(alloc: Global, line: &str) -> Result<Vec<String>, AllocError> {
+pub(crate) fn words_of(alloc: Global, line: &str) -> Result<Vec<String>, AllocError> {
     let mut words = Vec::new(alloc);
     for word in line.split(' ') {
         words.push(String::from_str(alloc, word)?)?;
@@ -32,7 +32,7 @@ fn point_of(point: &Option<(Name, u64)>) -> (&str, u64) {
 
 /// Options as a line: config, trace, restart, commits, chkpt, out, input, source, files, numbers, the
 /// options that stood, object and arguments.
-fn line_of(alloc: Global, o: &Options) -> Result<String, AllocError> {
+pub(crate) fn line_of(alloc: Global, o: &Options) -> Result<String, AllocError> {
     let (config, trace, restart) = (text_of(&o.config), text_of(&o.trace), text_of(&o.restart));
     let (commits, out, input) = (text_of(&o.commits), text_of(&o.out), text_of(&o.input));
     let (point, after) = point_of(&o.chkpt);
