@@ -1,6 +1,5 @@
 pub mod Trims
 pub mod Numerals
-pub mod Pieces
 pub mod Judging
 pub mod Strings
 pub mod OperandTexts

@@ -20,7 +20,8 @@ use Rattle.pisa_asm.specs.declared.slots.Slot.{Slot}
 use Rattle.pisa_asm.specs.declared.slots.Slot.TheVariants as slot
 use Rattle.pisa_asm.specs.declared.statements.Command.{Command}
 use Rattle.pisa_asm.specs.declared.statements.Command.TheVariants as command
-use Rattle.pisa_asm.specs.Letters.{is_allowed, code_length, code_of, is_blank, operands_in, parted, trim, trim_start}
+use Rattle.text_lines.specs.Lines.{is_allowed, is_blank, parted, trim_start}
+use Rattle.pisa_asm.specs.Letters.{code_length, code_of, operands_in, trim}
 use Rattle.pisa_asm.specs.Operands.{Said, and_then, operand_says, say, slot_says, slots_of, then_}
 use Rattle.pisa_asm.specs.Printed.{instruction_text, operand_texts, slot_text}
 use Rattle.pisa_asm.specs.Statements.{Stated, Words, bare, command_named, known, labelled_line, stated, words_in, words_of, words_with, worded}

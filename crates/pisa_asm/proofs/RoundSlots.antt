@@ -12,7 +12,8 @@ use Rattle.std.proofs.lemmas.Fmt.{decimal_nonempty}
 use Rattle.pisa_asm.specs.declared.tokens.Number.{Number}
 use Rattle.pisa_asm.specs.declared.slots.Slot.{Slot}
 use Rattle.pisa_asm.specs.declared.slots.Slot.TheVariants as slot
-use Rattle.pisa_asm.specs.Letters.{closed, parted}
+use Rattle.text_lines.specs.Lines.{parted}
+use Rattle.pisa_asm.specs.Letters.{closed}
 use Rattle.pisa_asm.specs.Tokens.{limited, limited_in, number_in, register_in, residue}
 use Rattle.pisa_asm.specs.Operands.{Said, addressed, aimed, based, both, branch_field, indexed, jump_field, reached, slot_says, summed, then_, where_it, with_imm, with_rd, with_rs, with_rt, with_shamt, with_target, within}
 use Rattle.pisa_asm.specs.Printed.{register_text, signed_text, slot_text, target_text}

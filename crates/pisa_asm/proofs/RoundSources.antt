@@ -17,7 +17,8 @@ use Rattle.pisa_asm.specs.declared.statements.Section.TheVariants as section
 use Rattle.pisa_asm.specs.declared.statements.Command.{Command}
 use Rattle.pisa_asm.specs.declared.statements.Command.TheVariants as command
 use Rattle.pisa_asm.specs.declared.sheet.Sheet.{Sheet}
-use Rattle.pisa_asm.specs.Letters.{is_allowed, lines_of, operands_in, parted, trim}
+use Rattle.text_lines.specs.Lines.{is_allowed, lines_of, parted}
+use Rattle.pisa_asm.specs.Letters.{operands_in, trim}
 use Rattle.pisa_asm.specs.Tokens.{limited, limited_in}
 use Rattle.pisa_asm.specs.Operands.{Said, and_then, say, slots_of, then_}
 use Rattle.pisa_asm.specs.Printed.{instruction_text, operand_texts, target_text}
@@ -25,7 +26,7 @@ use Rattle.pisa_asm.specs.Statements.{Stated, Words, bare, command_named, direct
 use Rattle.pisa_asm.specs.Sheets.{end_of_open, is_known, moved, pieces_of, text_end}
 use Rattle.pisa_asm.specs.Passes.{◌>>=◌, CanBeHeld, Found, after_line, at_line, described, first_pass, image_with, in_place, is_second, laid_out, made_bytes, next, no_sheet, nothing_found, parts_in, read, resolved, second_pass, statement_on, text_in, words_on}
 use Rattle.pisa_asm.specs.Rounds.{image_of_one, source_of_one}
-use Rattle.pisa_asm.proofs.Pieces.{last_line, more_lines}
+use Rattle.text_lines.specs.LineLaws.{last_line, more_lines}
 use Rattle.pisa_asm.proofs.RoundNames.{name_some}
 use Rattle.pisa_asm.proofs.RoundNumbers.{hex_token, number_hex, number_small, plain}
 use Rattle.pisa_asm.proofs.RoundTokens.{all_by, is_token_byte, joined, parted_here, parted_nowhere, piece_alone, token_lacks_comma, trim_same}

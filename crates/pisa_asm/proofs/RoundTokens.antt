@@ -5,9 +5,10 @@ use Rattle.std.proofs.lemmas.Bool.Decides.{nat_tests}
 use Rattle.std.proofs.lemmas.List.Folds.{list_all-append}
 use Rattle.std.proofs.lemmas.List.Splits.{slice_split-cons_no, slice_split-cons_yes}
 use Rattle.std.proofs.Math.Seq.{take-append_seam}
-use Rattle.pisa_asm.specs.Letters.{closed, is_blank, parted, parted_at, trim, trim_end, trim_start}
+use Rattle.text_lines.specs.Lines.{is_blank, parted, parted_at, trim_start}
+use Rattle.pisa_asm.specs.Letters.{closed, trim, trim_end}
 use Rattle.pisa_asm.specs.Tokens.{is_digit}
-use Rattle.pisa_asm.proofs.Pieces.{no_more_pieces}
+use Rattle.text_lines.specs.LineLaws.{no_more_pieces}
 
 -- a byte of a token: printable, and no quote, comment, comma or colon
 abbrev pub is_token_byte : ℕ → Bool

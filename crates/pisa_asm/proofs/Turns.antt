@@ -6,7 +6,7 @@ use Rattle.pisa_asm.specs.declared.statements.Stop.{Stop}
 use Rattle.pisa_asm.specs.declared.statements.Stop.TheVariants as stops
 use Rattle.pisa_asm.specs.declared.assembling.Findings.{Findings}
 use Rattle.pisa_asm.specs.declared.sheet.Sheet.{Sheet}
-use Rattle.pisa_asm.specs.Letters.{lines_of}
+use Rattle.text_lines.specs.Lines.{lines_of}
 use Rattle.pisa_asm.specs.Statements.{Stated}
 use Rattle.pisa_asm.specs.Views.{Fails}
 use Rattle.pisa_asm.specs.Passes.{Found, after_line, at_line, filled, first_pass, second_pass, nothing_found, no_sheet, words_on}

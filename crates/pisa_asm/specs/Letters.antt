@@ -1,26 +1,9 @@
--- The bytes of a source: lines, blanks, strings and comments.
-use Rattle.std.specs.Prelude.{◌+◌, ◌-◌, ◌&&◌, ◌||◌, ℕ, List, [], ◌∷◌, Bool, false, length, map, take, drop, slice_index, nat_eq, nat_le, if◌then◌else◌, Option, Some, None}
-use Rattle.std.specs.List.{slice_split, list_all, position}
+-- The bytes of a line of a source: strings, comments and operands.
+use Rattle.std.specs.Prelude.{◌+◌, ◌-◌, ℕ, List, [], ◌∷◌, Bool, false, length, map, take, slice_index, nat_eq, if◌then◌else◌, Option, Some, None}
+use Rattle.std.specs.List.{slice_split, list_all}
+use Rattle.text_lines.specs.Lines.{is_blank, trim_start}
 use Rattle.pisa_asm.specs.declared.letters.Quoting.{Quoting}
 use Rattle.pisa_asm.specs.declared.letters.Quoting.TheVariants.{Outside, Inside, Escaped}
-
--- lines without one behind the last newline that has no bytes
-abbrev pub whole_lines : List (List ℕ) → List (List ℕ)
-whole_lines [] = []
-whole_lines (line ∷ []) = if nat_eq (length line) 0 then [] else line ∷ []
-whole_lines (line ∷ next ∷ others) = line ∷ whole_lines (next ∷ others)
-
--- the lines of a text, without their newlines; the last one may lack its newline
-abbrev pub lines_of : List ℕ → List (List ℕ)
-lines_of text = whole_lines (slice_split (λ b. nat_eq b 10) text)
-
--- space, tab and carriage return
-abbrev pub is_blank : ℕ → Bool
-is_blank b = nat_eq b 32 || nat_eq b 9 || nat_eq b 13
-
--- a blank, or printable ASCII
-abbrev pub is_allowed : ℕ → Bool
-is_allowed b = is_blank b || (nat_le 33 b && nat_le b 126)
 
 -- a quote begins a string, and the next one that no backslash precedes ends it
 abbrev pub after_byte : Quoting → ℕ → Quoting
@@ -42,11 +25,6 @@ code_length q (b ∷ bs) = if begins_comment q b then 0 else 1 + code_length (af
 abbrev pub code_of : List ℕ → List ℕ
 code_of line = take (code_length Outside line) line
 
--- the bytes from the first one on that is no blank
-abbrev pub trim_start : List ℕ → List ℕ
-trim_start [] = []
-trim_start (b ∷ bs) = if is_blank b then trim_start bs else b ∷ bs
-
 -- the bytes up to the last one that is no blank
 abbrev pub trim_end : List ℕ → List ℕ
 trim_end [] = []
@@ -55,14 +33,6 @@ trim_end (b ∷ bs) = if list_all is_blank (b ∷ bs) then [] else b ∷ trim_en
 -- the bytes without the blanks round them
 abbrev pub trim : List ℕ → List ℕ
 trim bytes = trim_end (trim_start bytes)
-
--- what stands before and after the first `c`; None where there is none
-abbrev pub parted_at : Option ℕ → List ℕ → Option (List ℕ × List ℕ)
-parted_at None bytes = None
-parted_at (Some place) bytes = Some (take place bytes, drop (place + 1) bytes)
-
-abbrev pub parted : ℕ → List ℕ → Option (List ℕ × List ℕ)
-parted c bytes = parted_at (position (λ b. nat_eq b c) bytes) bytes
 
 -- what stands before a `)` at the end; None where none stands there
 abbrev pub closed : List ℕ → Option (List ℕ)

@@ -10,7 +10,8 @@ use Rattle.ss_base.specs.declared.text_fault.TextWhy.TheVariants as why
 use Rattle.pisa_asm.specs.declared.tokens.Number.{Number}
 use Rattle.pisa_asm.specs.declared.slots.Slot.{Slot}
 use Rattle.pisa_asm.specs.declared.slots.Slot.TheVariants as slot
-use Rattle.pisa_asm.specs.Letters.{parted, closed}
+use Rattle.text_lines.specs.Lines.{parted}
+use Rattle.pisa_asm.specs.Letters.{closed}
 use Rattle.pisa_asm.specs.Tokens.{is_label, number_in, limited_in, is_within, residue, register_in}
 
 -- the places among an instruction's operands, in the order of the text

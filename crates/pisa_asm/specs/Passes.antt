@@ -21,7 +21,8 @@ use Rattle.pisa_asm.specs.declared.statements.Command.{Command}
 use Rattle.pisa_asm.specs.declared.statements.Command.TheVariants as command
 use Rattle.pisa_asm.specs.declared.sheet.Piece.{Piece}
 use Rattle.pisa_asm.specs.declared.sheet.Sheet.{Sheet}
-use Rattle.pisa_asm.specs.Letters.{code_of, is_allowed, lines_of}
+use Rattle.text_lines.specs.Lines.{is_allowed, lines_of}
+use Rattle.pisa_asm.specs.Letters.{code_of}
 use Rattle.pisa_asm.specs.Operands.{Said, branch_field, jump_field, reached, with_imm, with_number, with_target}
 use Rattle.pisa_asm.specs.Statements.{Stated, Words, command_named, known, words_in}
 use Rattle.pisa_asm.specs.Sheets.{address_of, brings, bytes_of, end_of_open, has_section, is_known, may_stand, moved, pieces_of, text_end, with_label}

@@ -14,7 +14,8 @@ use Rattle.pisa_asm.specs.declared.slots.Slot.TheVariants as slot
 use Rattle.pisa_asm.specs.declared.statements.Section.TheVariants as section
 use Rattle.pisa_asm.specs.declared.statements.Command.{Command}
 use Rattle.pisa_asm.specs.declared.statements.Command.TheVariants as command
-use Rattle.pisa_asm.specs.Letters.{is_blank, trim_start, operands_in, parted}
+use Rattle.text_lines.specs.Lines.{is_blank, trim_start, parted}
+use Rattle.pisa_asm.specs.Letters.{operands_in}
 use Rattle.pisa_asm.specs.Tokens.{is_label}
 use Rattle.pisa_asm.specs.Operands.{Said, say, slots_of, then_}
 

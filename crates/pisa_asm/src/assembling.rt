@@ -2,19 +2,20 @@
 ghost use Rattle.std.specs.Prelude.{◌≡◌, ◌+◌, ◌<◌, ◌≤◌, ◌^◌, ℕ, List, Ok, length, reverse, IfOk};
 ghost use Rattle.pisa_asm.specs.Kept.{fault_at, Comes, Finds, Matches, StepsTo};
 ghost use Rattle.pisa_asm.specs.LabelMaps.{Holds};
-ghost use Rattle.pisa_asm.specs.Letters.{lines_of};
+ghost use Rattle.text_lines.specs.Lines.{lines_of};
 ghost use Rattle.std.specs.Option.{option_map};
 ghost use Rattle.pisa_asm.specs.Sheets.{pieces_of};
 ghost use Rattle.pisa_asm.specs.Views.{stated_of};
 ghost use Rattle.pisa_asm.specs.Passes.{Answers, Found, after_line, described, entry_after, entry_of, first_pass, image_with, kind_of, laid_out, no_layout, no_sheet, nothing_found, part_onto, parts_in, second_pass, text_in, text_or};
 
 use crate::labels::Labels;
-use crate::passes::{begins_at, filled, next_line, read, words_on};
+use crate::passes::{begins_at, filled, read, words_on};
 use crate::sheet::{Piece, Sheet};
 use crate::statements::{Command, Section, Statement, Stop};
 use ecoff_load::{Image, Kind, Part, Parts, Text, object_length};
 use ss_base::{AsmFault, TextWhy};
 use std::alloc::{AllocError, Global};
+use text_lines::next_line;
 
 /// What the first pass found: sections, labels, and the label of the entry.
 #[derive(Debug, Drop)]

@@ -1,9 +1,12 @@
-//! The bytes of a line: blanks, strings and comments.
-ghost use Rattle.std.specs.Prelude.{◌≡◌, ◌<◌, ◌≤◌, length, nat_eq, IfSome};
-ghost use Rattle.std.specs.List.{list_all, position};
+//! The bytes of a line: strings and comments.
+ghost use Rattle.std.specs.Prelude.{◌≡◌, ◌≤◌, length};
+ghost use Rattle.std.specs.List.{list_all};
 ghost use Rattle.pisa_asm.specs.declared.letters.Quoting.TheVariants.{Outside};
 ghost use Rattle.std.specs.Option.{option_map};
-ghost use Rattle.pisa_asm.specs.Letters.{after_byte, closed, parted, begins_comment, code_length, code_of, is_allowed, is_blank, trim, trim_end, trim_start};
+ghost use Rattle.text_lines.specs.Lines.{is_blank};
+ghost use Rattle.pisa_asm.specs.Letters.{after_byte, closed, begins_comment, code_length, code_of, trim, trim_end};
+
+use text_lines::{is_blank, trim_start};
 
 /// Where a byte of a line stands.
 #[derive(Clone, Copy, Debug)]
@@ -14,27 +17,6 @@ enum Quoting {
     Inside,
     /// Inside a string, behind a backslash.
     Escaped,
-}
-
-/// Whether a byte is a space, a tab or a carriage return.
-pub(crate) fn is_blank(b: u8) -> bool
-    ensures { result ≡ is_blank b }
-{
-    b == b' ' || b == b'\t' || b == b'\r'
-}
-
-/// Whether a byte may stand in a source.
-fn is_allowed(b: u8) -> bool
-    ensures { result ≡ is_allowed b }
-{
-    is_blank(b) || (33 <= b && b <= 126)
-}
-
-/// Whether all bytes of a line may stand there.
-pub(crate) fn are_allowed(line: &[u8]) -> bool
-    ensures { result ≡ list_all is_allowed line.now }
-{
-    line.iter().all(|b| is_allowed(*b))
 }
 
 /// Whether there are only blanks.
@@ -100,20 +82,6 @@ pub(crate) fn code_of(line: &[u8]) -> &[u8]
     &line[..code_length(line)]
 }
 
-/// The bytes from the first one on that is no blank.
-pub(crate) fn trim_start(bytes: &[u8]) -> &[u8]
-    ensures { result.now ≡ trim_start bytes.now }
-{
-    let mut rest = bytes;
-    while let [first, others @ ..] = rest {
-        if !is_blank(*first) {
-            break;
-        }
-        rest = others;
-    }
-    rest
-}
-
 /// The bytes up to the last one that is no blank.
 fn trim_end(bytes: &[u8]) -> &[u8]
     ensures { result.now ≡ trim_end bytes.now }
@@ -133,25 +101,6 @@ pub(crate) fn trim(bytes: &[u8]) -> &[u8]
     ensures { result.now ≡ trim bytes.now }
 {
     trim_end(trim_start(bytes))
-}
-
-/// The place of the first `c`.
-fn place_of(c: u8, bytes: &[u8]) -> Option<usize>
-    ensures value { result ≡ position (λ b. nat_eq b c) bytes.now }
-    ensures inside { IfSome result (λ at. at < length bytes.now) }
-{
-    bytes.iter().position(|b| *b == c)
-}
-
-/// What stands before and after the first `c`, `None` exactly where there is none.
-pub(crate) fn parted(c: u8, bytes: &[u8]) -> Option<(&[u8], &[u8])>
-    ensures value { option_map (λ p. (p.0.now, p.1.now)) result ≡ parted c bytes.now }
-    ensures shorter { IfSome result (λ p. length p.1.now < length bytes.now) }
-{
-    match place_of(c, bytes) {
-        None => None,
-        Some(at) => Some((bytes.split_at(at).0, bytes.split_at(at + 1).1)),
-    }
 }
 
 /// What stands before a `)` at the end, `None` exactly where none stands there.

@@ -1,7 +1,8 @@
 //! The operands of a statement: what a token says at its place.
 ghost use Rattle.std.specs.Prelude.{◌≡◌, ◌<◌, ◌≤◌, ◌^◌, IfSome, ℕ, List, [], ◌∷◌, Result};
 ghost use Rattle.std.specs.Option.{option_map};
-ghost use Rattle.pisa_asm.specs.Letters.{closed, operands_in, parted};
+ghost use Rattle.text_lines.specs.Lines.{parted};
+ghost use Rattle.pisa_asm.specs.Letters.{closed, operands_in};
 ghost use Rattle.pisa_asm.specs.Operands.{Said, addressed, based, beside, branch_field, first_of, indexed, jump_field, labelled, operand_says, say, slot_says, summed, then_, valued, with_imm, with_number};
 ghost use Rattle.pisa_asm.specs.Tokens.{number_in as number_in_spec, limited_in as limited_in_spec, residue};
 ghost use Rattle.pisa_isa.specs.Fields.{takes_pair};
@@ -10,11 +11,12 @@ ghost use Rattle.ss_base.specs.declared.text_fault.TextWhy.{TextWhy as Why};
 ghost use Rattle.pisa_asm.specs.declared.slots.Slot.TheVariants as slot;
 ghost use Rattle.pisa_asm.specs.Views.{combined, going, said_of, seen};
 
-use crate::letters::{are_blank, closed, parted, trim};
+use crate::letters::{are_blank, closed, trim};
 use crate::slots::Slot;
 use crate::tokens::{is_label, limited_in, number_in, register_in};
 use pisa_isa::{Instr, Op, branch_target, jump_target};
 use ss_base::TextWhy;
+use text_lines::parted;
 
 /// What operands say: the fields of an instruction, or a number, and a label that stands for a
 /// target or a value.

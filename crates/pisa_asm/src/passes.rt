@@ -2,30 +2,18 @@
 ghost use Rattle.std.specs.Prelude.{◌≡◌, ◌+◌, ◌<◌, ◌≤◌, ◌^◌, ◌∷◌, [], ℕ, List, length, is_some};
 ghost use Rattle.std.specs.Option.{option_map};
 ghost use Rattle.pisa_asm.specs.LabelMaps.{Holds};
-ghost use Rattle.pisa_asm.specs.Letters.{lines_of};
 ghost use Rattle.pisa_asm.specs.Passes.{begins_at, filled, in_place, is_second, label_may_stand, read, resolved, statement_on, target_at, value_at, words_on};
 ghost use Rattle.pisa_asm.specs.Views.{Gives, said_of, seen, stated_of, words_seen};
 
 use crate::labels::Labels;
-use crate::letters::{are_allowed, code_of, parted};
+use crate::letters::code_of;
 use crate::operands::{Filled, branch_field, jump_field};
 use crate::sheet::Sheet;
 use crate::statements::{Command, Line, Statement, Stop, command_named, statement_by, words_in};
 use pisa_isa::{Instr, Operands, operands};
 use ss_base::TextWhy;
 use std::alloc::Global;
-
-/// The first line of a text that isn't empty, and what stands behind its newline.
-pub(crate) fn next_line(text: &[u8]) -> (&[u8], &[u8])
-    requires { 0 < length text.now }
-    ensures lines { lines_of text.now ≡ result.0.now ∷ lines_of result.1.now }
-    ensures shorter { length result.1.now < length text.now }
-{
-    match parted(b'\n', text) {
-        Some(parts) => parts,
-        None => (text, &[]),
-    }
-}
+use text_lines::are_allowed;
 
 /// The words of a line.
 pub(crate) fn words_on(line: &[u8]) -> Line<'_>

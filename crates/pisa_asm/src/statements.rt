@@ -2,19 +2,20 @@
 ghost use Rattle.std.specs.Prelude.{◌≡◌, ◌<◌, ◌≤◌, IfSome, bytes_eq, length, find, position, None, false};
 ghost use Rattle.std.specs.Option.{option_map};
 ghost use Rattle.pisa_isa.specs.Texts.{name_of};
-ghost use Rattle.pisa_asm.specs.Letters.{is_blank};
+ghost use Rattle.text_lines.specs.Lines.{is_blank};
 ghost use Rattle.pisa_asm.specs.Statements.{bare, command_named, directive_named, escape, integer_ops, nothing_said, operation_named, places, statement_by, string_from, string_in, words_in, words_of, words_with};
 ghost use Rattle.pisa_asm.specs.declared.statements.Command.TheVariants.{Ascii as ascii};
 ghost use Rattle.pisa_asm.specs.declared.statements.Stop.TheVariants as stops;
 ghost use Rattle.pisa_asm.specs.Views.{Gives, said_of, stated_of, words_seen};
 
-use crate::letters::{are_blank, is_blank, parted, trim_start};
+use crate::letters::are_blank;
 use crate::operands::{Filled, say};
 use crate::slots::{Slot, slots_of};
 use crate::tokens::is_label;
 use pisa_isa::{Instr, Op, name, operands};
 use ss_base::TextWhy;
 use std::alloc::{AllocError, AllocFailed, Global};
+use text_lines::{is_blank, parted, trim_start};
 
 /// A section of an object.
 #[derive(Clone, Copy, Debug)]

@@ -1,6 +1,6 @@
 use Rattle.std.proofs.Common.{refl, sym, subst, Err, arith}
 use Rattle.ss_base.specs.declared.text_fault.AsmFault.{AsmFault}
-use Rattle.pisa_asm.specs.Letters.{lines_of}
+use Rattle.text_lines.specs.Lines.{lines_of}
 use Rattle.pisa_asm.specs.Passes.{first_pass, nothing_found}
 use Rattle.pisa_asm.specs.Kept.{Finds}
 use Rattle.pisa_asm.proofs.Turns.{goes_on, ends_wrong, is_done}

@@ -2,7 +2,7 @@ use Rattle.std.proofs.Common.{◌∙◌, ◌∷◌, [], List, ℕ, sym, ap, map,
 use Rattle.std.specs.List.{slice_split}
 use Rattle.pisa_asm.specs.Letters.{trim}
 use Rattle.pisa_asm.specs.Views.{going}
-use Rattle.pisa_asm.proofs.Pieces.{more_pieces, no_more_pieces}
+use Rattle.text_lines.specs.LineLaws.{more_pieces, no_more_pieces}
 use Rattle.pisa_asm.proofs.operands.say.Goals as goal
 
 pub pieces-preserved : goal.pieces-preserved
