@@ -6,3 +6,4 @@ mod Written
 mod Squashes
 mod Recoveries
 mod Dispatches
+mod Turns
