@@ -13,7 +13,8 @@ use Rattle.core_parts.specs.Stages.{RecoversAt, Recovers}
 use Rattle.core_recovery.specs.Recovery.{recovers, recovering_in}
 use Rattle.core_watch.specs.Shown.{Shown}
 use Rattle.core_watch.specs.StageItems.{written_events}
-use Rattle.watched_stages.specs.Watched.{Shows, WatchedRecovery, completions_above, squashes_behind}
+use Rattle.core_events.specs.Recoveries.{squashes_behind}
+use Rattle.watched_stages.specs.Watched.{Shows, WatchedRecovery, completions_above}
 use Rattle.watched_stages.proofs.Completions.{found_below}
 use Rattle.watched_stages.proofs.Written.{completions_written}
 use Rattle.watched_stages.proofs.Squashes.{squashes_there}

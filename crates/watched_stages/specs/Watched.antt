@@ -1,7 +1,6 @@
 -- What a stage of a cycle owes under a watch: the parts stand for the table behind the stage, and the watch was shown what
 -- the stage did to each row of that table.
 use Rattle.std.specs.Prelude.{ℕ, suc, ◌+◌, ◌-◌, Bool, true, false, List, [], ◌∷◌, ◌++◌, map, Option, Some, None, Result, ◌&&◌, if◌then◌else◌}
-use Rattle.std.specs.List.{range_with_len}
 use Rattle.ruu_core.specs.Window as unit
 use Rattle.ruu_core.specs.Window.{is_at, is_above, completes}
 use Rattle.ooo_front.specs.declared.row.FetchRow.{FetchRow}
@@ -33,14 +32,6 @@ abbrev pub completions_above : ℕ → Option ℕ → List unit.Row → List Eve
 completions_above c after [] = []
 completions_above c after (u ∷ older) =
     completions_above c after older ++ (if is_above after u.station.row && completes c older u then completion_event c u ∷ [] else [])
-
-abbrev pub squash_event : ℕ → ℕ → Event
-squash_event c row = record { cycle = c; row = row; mark = mark.Squashed }
-
--- of all rows behind the one that recovers, if one does, up to the next row to be fetched
-abbrev pub squashes_behind : ℕ → Option ℕ → ℕ → List Event
-squashes_behind c None next = []
-squashes_behind c (Some row) next = map (squash_event c) (range_with_len (row + 1) (next - (row + 1)))
 
 abbrev pub issue_event : ℕ → Issued → Event
 issue_event c (issued.Main row) = record { cycle = c; row = row; mark = mark.Issued }

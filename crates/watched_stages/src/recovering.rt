@@ -4,7 +4,8 @@ ghost use Rattle.std.specs.List.{range_with_len};
 ghost use Rattle.sim_safe.specs.Observed.{SawCounts, SawWithoutMemory};
 ghost use Rattle.ruu_core.specs.Window.{is_above, is_live, written_of};
 ghost use Rattle.core_parts.specs.Fits.{Fits};
-ghost use Rattle.watched_stages.specs.Watched.{Shows, WatchedRecovery, completion_mark, completions_above, squash_event, squashes_behind};
+ghost use Rattle.watched_stages.specs.Watched.{Shows, WatchedRecovery, completion_mark, completions_above};
+ghost use Rattle.core_events.specs.Recoveries.{squash_event, squashes_behind};
 
 use core_parts::Parts;
 use core_watch::Watch;

@@ -1,6 +1,7 @@
 use Rattle.std.proofs.Common.{◌<◌, None, sym, ◌∙◌, subst}
 use Rattle.core_recovery.proofs.Named.{recovers_at}
-use Rattle.watched_stages.specs.Watched.{Shows, completions_above, squashes_behind}
+use Rattle.core_events.specs.Recoveries.{squashes_behind}
+use Rattle.watched_stages.specs.Watched.{Shows, completions_above}
 use Rattle.watched_stages.proofs.Showing.{shows_both, shows_first}
 use Rattle.watched_stages.proofs.Recoveries.{recovering_below, watched_recovery}
 use Rattle.watched_stages.proofs.recovering.recover.Goals as goal

@@ -1,7 +1,7 @@
 use Rattle.std.proofs.Common.{◌-◌, ◌+◌, map, refl, ◌∙◌}
 use Rattle.std.specs.List.{range_with_len}
 use Rattle.core_watch.proofs.Events.{goes_begin}
-use Rattle.watched_stages.specs.Watched.{squash_event}
+use Rattle.core_events.specs.Recoveries.{squash_event}
 use Rattle.watched_stages.proofs.Showing.{goes_on, goes_short, goes_over}
 use Rattle.watched_stages.proofs.Squashes.{squash_next, squash_none}
 use Rattle.watched_stages.proofs.recovering.show_rows.Goals as goal

@@ -1,7 +1,7 @@
 use Rattle.std.proofs.Common.{◌≡◌, ◌-◌, map}
 use Rattle.std.specs.List.{range_with_len}
 use Rattle.core_watch.proofs.Events.{Goes}
-use Rattle.watched_stages.specs.Watched.{squash_event}
+use Rattle.core_events.specs.Recoveries.{squash_event}
 use Rattle.watched_stages.proofs.recovering.show_rows.Given as goal
 
 abbrev pub invariant-loop-row : goal.invariant-loop-row
