@@ -15,7 +15,7 @@ use Rattle.ss_base.specs.declared.text_fault.AsmFault.TheVariants as fault
 use Rattle.ss_base.specs.declared.text_fault.TextWhy.{TextWhy}
 use Rattle.ss_base.specs.declared.text_fault.TextWhy.TheVariants as why
 use Rattle.pisa_asm.specs.Passes.{Found as Findings, CanBeHeld, after_line, are_short, at_line, described, filled, first_pass, image_with, next, no_sheet, nothing_found, parts_in, second_pass, text_in, words_on}
-use Rattle.pisa_asm.specs.Letters.{lines_of}
+use Rattle.text_lines.specs.Lines.{lines_of}
 use Rattle.pisa_asm.specs.Sheets.{pieces_of}
 use Rattle.journal.specs.declared.loading.Found.{Found}
 use Rattle.journal.specs.Load.{Input, AreFound}
