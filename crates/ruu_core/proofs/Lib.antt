@@ -2,4 +2,5 @@ pub mod Calls
 pub mod LawProofs
 pub mod Links
 pub mod Rows
+pub mod Stays
 pub mod Walks

@@ -1,6 +1,6 @@
 -- Walks over a list from its first item on, and over the ring from the oldest slot on.
-use Rattle.std.proofs.Common.{◌≡◌, ℕ, zero, suc, ◌+◌, ◌<◌, ◌≤◌, Some, None, cond, Bool, true, false, List, [], ◌∷◌, ◌++◌, length, take, drop, refl, sym, ap, ◌∙◌, arith, add-one}
-use Rattle.std.specs.Prelude.{map, reverse, slice_get, slice_set, find, ◌||◌, nat_le, if◌then◌else◌}
+use Rattle.std.proofs.Common.{◌≡◌, ℕ, zero, suc, ◌+◌, ◌-◌, ◌<◌, ◌≤◌, Some, None, cond, Bool, true, false, List, [], ◌∷◌, ◌++◌, length, take, drop, refl, sym, ap, ◌∙◌, arith, add-one}
+use Rattle.std.specs.Prelude.{map, reverse, slice_get, slice_set, find, option_map, Option, ◌||◌, nat_le, if◌then◌else◌}
 use Rattle.std.specs.List.{list_any}
 use Rattle.std.proofs.lemmas.List.{reverse-append, take_more}
 use Rattle.std.proofs.lemmas.Option.{slice_get_within, get_or_from_slice_get}
@@ -8,8 +8,9 @@ use Rattle.circular_buffer.specs.Buffer.{Buffer, buffer}
 use Rattle.pisa_isa.specs.declared.places.Place.{Place}
 use Rattle.ruu_core.specs.declared.slot.Slot.{Slot}
 use Rattle.ruu_core.specs.declared.slot.Source.{Source}
-use Rattle.ruu_core.specs.Window.{same_place}
-use Rattle.ruu_core.specs.Slots.{up_to, source_of, source_behind, slot_named}
+use Rattle.ruu_core.specs.declared.search.Search.{Search}
+use Rattle.ruu_core.specs.Window.{same_place, or_else}
+use Rattle.ruu_core.specs.Slots.{up_to, source_of, source_behind, slot_named, wanted, least_of}
 
 -- ---- the items up to a place
 
@@ -58,6 +59,22 @@ any_found {X = X} p (x ∷ xs) h t = by_test (p x) h t (any_found p xs)
     by_test true h t ih = cc
     by_test false h t ih = ih h t
 
+-- the least of two pieces is that of the older one, and where that has none, of the newer one
+pub least_of_two : (what : Search) (after : Option ℕ) (older newer all : List Slot) (found : Option ℕ) → older ++ newer ≡ all → found ≡ least_of what after older
+    → or_else found (least_of what after newer) ≡ least_of what after all
+least_of_two what after older newer all found e is =
+    ap (λ o. or_else o (least_of what after newer)) is ∙ (sym (step older) ∙ ap (least_of what after) e)
+  where
+    step : (xs : List Slot) → least_of what after (xs ++ newer) ≡ or_else (least_of what after xs) (least_of what after newer)
+    step [] = refl
+    step (x ∷ xs) = by_test (wanted what after x) (step xs)
+      where
+        by_test : (b : Bool) → least_of what after (xs ++ newer) ≡ or_else (least_of what after xs) (least_of what after newer)
+            → option_map (λ (s : Slot). s.station.row) (cond b (Some x) (find (wanted what after) (xs ++ newer)))
+            ≡ or_else (option_map (λ (s : Slot). s.station.row) (cond b (Some x) (find (wanted what after) xs))) (least_of what after newer)
+        by_test true ih = refl
+        by_test false ih = ih
+
 -- ---- all items, one after the other
 
 pub one_changed : {X : Type 0} (f : X → X) (xs : List X) (i : ℕ) (x : X) → slice_get (map f (take i xs) ++ drop i xs) i ≡ Some x
@@ -88,11 +105,13 @@ step_all f start before after i inside e g =
 
 -- ---- steps of two walks
 
-pub source_next : (p : Place) (i : ℕ) (old new : Source) (xs : List Slot) (x : Slot) → slice_get xs i ≡ Some x
-    → old ≡ source_behind p (reverse (take i xs)) → new ≡ (if list_any (λ w. same_place w p) x.writes.items then source_of x else old)
-    → new ≡ source_behind p (reverse (take (i + 1) xs))
-source_next p i old new xs x e h is =
-    is ∙ (ap (λ y. cond (list_any (λ w. same_place w p) x.writes.items) (source_of x) y) h ∙ sym (ap (source_behind p) (one_more xs i x e)))
+-- the newest of the first slots produces the place where it writes it, and else one of those before it
+pub source_before : (p : Place) (xs : List Slot) (k : ℕ) (x : Slot) (b : Bool) → 0 < k → slice_get xs (k - 1) ≡ Some x → list_any (λ w. same_place w p) x.writes.items ≡ b
+    → source_behind p (reverse (take k xs)) ≡ (if b then source_of x else source_behind p (reverse (take (k - 1) xs)))
+source_before p xs k x b some e is =
+    let again : k ≡ k - 1 + 1 = omega arith in
+    ap (λ n. source_behind p (reverse (take n xs))) again
+    ∙ (ap (source_behind p) (one_more xs (k - 1) x e) ∙ ap (λ t. cond t (source_of x) (source_behind p (reverse (take (k - 1) xs)))) is)
 
 pub count_next : (row i count new : ℕ) (xs : List Slot) (x : Slot) → slice_get xs i ≡ Some x → count ≤ i
     → reverse (take count xs) ≡ up_to row (reverse (take i xs)) → new ≡ (if nat_le x.station.row row then i + 1 else count)

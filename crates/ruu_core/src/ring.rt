@@ -1,10 +1,9 @@
-//! Walks over the ring, from the oldest slot to the newest.
-ghost use Rattle.std.specs.Prelude.{◌≡◌, ◌<◌, ◌≤◌, length, find, map, take, reverse, slice_get, slice_set, Some, IsTrue, option_copied, if◌then◌else◌};
+//! Walks over the ring.
+ghost use Rattle.std.specs.Prelude.{◌≡◌, ◌<◌, ◌≤◌, length, find, map, take, reverse, slice_get, slice_set, Some, IsTrue, option_copied, nat_lt, if◌then◌else◌};
 ghost use Rattle.std.specs.List.{list_any};
 ghost use Rattle.circular_buffer.specs.Buffer.{buffer};
 ghost use Rattle.ruu_core.specs.declared.slot.Slot.{Slot};
-ghost use Rattle.ruu_core.specs.Window.{same_place};
-ghost use Rattle.ruu_core.specs.Slots.{least_of, source_of, source_behind, source_for, sources_behind, slot_after, slot_named, up_to};
+ghost use Rattle.ruu_core.specs.Slots.{least_of, source_behind, source_for, sources_behind, slot_after, slot_named, up_to};
 
 use crate::search::Search;
 use crate::slot::{Event, Slot, Source};
@@ -22,17 +21,27 @@ pub fn slot_at(slots: &HeapCircularBuffer<Slot>, at: usize) -> &Slot
     }
 }
 
-/// The least row above a number that passes.
-pub fn least(slots: &HeapCircularBuffer<Slot>, what: Search, after: Option<u64>) -> Option<u64>
-    ensures { result ≡ least_of what after slots.now.items }
+/// The least row of these slots, the oldest first, that is above a number and passes.
+fn least_among(slots: &[Slot], what: Search, after: Option<u64>) -> Option<u64>
+    ensures { result ≡ least_of what after slots.now }
 {
-    for at in 0..slots.len() {
-        let slot = slot_at(slots, at);
+    for slot in slots {
         if what.passes_above(after, slot) {
             return Some(slot.station.row);
         }
     }
     None
+}
+
+/// The least row above a number that passes.
+pub fn least(slots: &HeapCircularBuffer<Slot>, what: Search, after: Option<u64>) -> Option<u64>
+    ensures { result ≡ least_of what after slots.now.items }
+{
+    let (older, newer) = slots.as_slices();
+    match least_among(older, what, after) {
+        Some(row) => Some(row),
+        None => least_among(newer, what, after),
+    }
 }
 
 /// The slot of a live row.
@@ -49,27 +58,18 @@ pub fn named(slots: &HeapCircularBuffer<Slot>, row: u64) -> &Slot
     unreachable!()
 }
 
-/// What a reader of the place behind the slot waits for, where behind those before it is `older`.
-fn source_behind(older: Source, slot: &Slot, place: Place) -> Source
-    ensures { result ≡ (if list_any (λ w. same_place w place) slot.now.writes.items
-        then source_of slot.now else older) }
-{
-    if slot.writes_place(place) {
-        slot.source()
-    } else {
-        older
-    }
-}
-
-/// What a reader of the place behind all slots waits for.
+/// What a reader of the place behind all slots waits for: the newest that writes it.
 fn source(slots: &HeapCircularBuffer<Slot>, place: Place) -> Source
     ensures { result ≡ source_behind place (reverse slots.now.items) }
 {
-    let mut source = Source::NONE;
-    for at in 0..slots.len() {
-        source = source_behind(source, slot_at(slots, at), place);
+    let count = slots.len();
+    for at in (0..count).rev() {
+        let writer = slot_at(slots, at);
+        if writer.writes_place(place) {
+            return writer.source();
+        }
     }
-    source
+    Source::NONE
 }
 
 fn source_for(slots: &HeapCircularBuffer<Slot>, place: Option<&Place>) -> Source
@@ -123,5 +123,25 @@ pub fn note(slots: &mut HeapCircularBuffer<Slot>, event: &Event)
 {
     for at in 0..slots.len() {
         note_at(slots, at, event);
+    }
+}
+
+fn note_from_at(slots: &mut HeapCircularBuffer<Slot>, at: usize, row: u64, event: &Event)
+    requires { at < length slots.old.items }
+    ensures { (x : Slot) → slice_get slots.old.items at ≡ Some x
+        → slots.new ≡ buffer (slice_set slots.old.items at (if nat_lt x.station.row row then x else slot_after event.now x)) slots.old.capacity }
+{
+    match slots.get_mut(at) {
+        Some(slot) => slot.note_from(row, event),
+        None => unreachable!(),
+    }
+}
+
+/// Tells the slots from a row on what happens to it.
+pub fn note_from(slots: &mut HeapCircularBuffer<Slot>, row: u64, event: &Event)
+    ensures { slots.new ≡ buffer (map (λ x. if nat_lt x.station.row row then x else slot_after event.now x) slots.old.items) slots.old.capacity }
+{
+    for at in 0..slots.len() {
+        note_from_at(slots, at, row, event);
     }
 }

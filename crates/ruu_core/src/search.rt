@@ -24,29 +24,24 @@ pub fn either(a: bool, b: bool) -> bool
     a || b
 }
 
-fn all_of(a: bool, b: bool, c: bool) -> bool
-    ensures { result ≡ (a && b && c) }
-{
-    a && b && c
-}
-
 fn is_ready(slot: &Slot, cycle: u64) -> bool
     ensures { result ≡ slot_passes (Search.Ready cycle) slot.now }
 {
-    let fed = are_fed(&slot.main, cycle);
-    all_of(slot.dispatched < cycle, slot.issued.is_none(), fed)
+    if slot.issued.is_none() && slot.dispatched < cycle {
+        are_fed(&slot.main, cycle)
+    } else {
+        false
+    }
 }
 
 fn may_access(slot: &Slot, cycle: u64) -> bool
     ensures { result ≡ slot_passes (Search.Access cycle) slot.now }
 {
-    let fed = are_fed(&slot.second, cycle);
-    let written = all_of(
-        slot.station.is_load(),
-        is_by(cycle, slot.written),
-        slot.accessed.is_none(),
-    );
-    written && fed
+    if is_by(cycle, slot.written) && slot.accessed.is_none() && slot.station.is_load() {
+        are_fed(&slot.second, cycle)
+    } else {
+        false
+    }
 }
 
 fn completes(slot: &Slot, cycle: u64) -> bool
@@ -84,8 +79,10 @@ impl Search {
     pub fn passes_above(self, after: Option<u64>, slot: &Slot) -> bool
         ensures { result ≡ (is_above after slot.now.station.row && slot_passes self slot.now) }
     {
-        let above = is_above(after, slot.station.row);
-        let passes = self.passes(slot);
-        above && passes
+        if is_above(after, slot.station.row) {
+            self.passes(slot)
+        } else {
+            false
+        }
     }
 }

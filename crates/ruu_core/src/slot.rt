@@ -1,5 +1,5 @@
 //! A slot of the ring: a row with its marks, and with what it waits for.
-ghost use Rattle.std.specs.Prelude.{◌≡◌, ◌&&◌, ◌||◌, not, is_none, map, nat_lt};
+ghost use Rattle.std.specs.Prelude.{◌≡◌, ◌&&◌, ◌||◌, not, false, is_none, map, nat_lt, if◌then◌else◌};
 ghost use Rattle.std.specs.List.{list_any};
 ghost use Rattle.ruu_core.specs.Window.{is_at, is_by, is_before, same_place, finished};
 ghost use Rattle.ruu_core.specs.Slots.{shown, source_of, no_source, is_fed, are_fed, source_after, sources_after, marked, slot_after};
@@ -22,6 +22,19 @@ pub enum Event {
     Issued(u64, u64, u64),
     Accessed(u64, u64, u64),
     Retired(u64),
+}
+
+impl Event {
+    /// The row to which it happens. Sources of other rows stay.
+    fn row(&self) -> u64
+        ensures { (x : Source) → is_at result x.row ≡ false → source_after self.now x ≡ x }
+    {
+        match *self {
+            Event::Issued(row, _, _) => row,
+            Event::Accessed(row, _, _) => row,
+            Event::Retired(row) => row,
+        }
+    }
 }
 
 /// A dispatched row with its marks, the places that it writes, and the sources of what it reads.
@@ -95,7 +108,9 @@ impl Source {
         self.row.is_none() || is_by(cycle, self.done)
     }
 
-    fn note(&mut self, event: &Event)
+    /// Takes over what happens to a row, where that row is its own.
+    #[inline(never)]
+    fn renew(&mut self, event: &Event)
         ensures { self.new ≡ source_after event.now self.old }
     {
         match *event {
@@ -116,6 +131,17 @@ impl Source {
             }
         }
     }
+
+    /// Notes what happens to the row.
+    #[inline(always)]
+    fn note(&mut self, row: u64, event: &Event)
+        requires { (x : Source) → is_at row x.row ≡ false → source_after event.now x ≡ x }
+        ensures { self.new ≡ source_after event.now self.old }
+    {
+        if is_at(row, self.row) {
+            self.renew(event);
+        }
+    }
 }
 
 /// Whether all that is waited for is done by the cycle.
@@ -125,11 +151,14 @@ pub fn are_fed(sources: &[Source], cycle: u64) -> bool
     sources.iter().all(|source| source.is_fed(cycle))
 }
 
-fn note_all(sources: &mut [Source], event: &Event)
+/// Notes in all of them what happens to the row.
+#[inline(always)]
+fn note_all(sources: &mut [Source], row: u64, event: &Event)
+    requires { (x : Source) → is_at row x.row ≡ false → source_after event.now x ≡ x }
     ensures { sources.new ≡ map (source_after event.now) sources.old }
 {
     for source in sources.iter_mut() {
-        source.note(event);
+        source.note(row, event);
     }
 }
 
@@ -196,8 +225,18 @@ impl Slot {
     pub fn note(&mut self, event: &Event)
         ensures { self.new ≡ slot_after event.now self.old }
     {
+        let row = event.row();
         self.mark(event);
-        note_all(&mut self.main, event);
-        note_all(&mut self.second, event);
+        note_all(&mut self.main, row, event);
+        note_all(&mut self.second, row, event);
+    }
+
+    /// Notes what happens to a row, where it isn't a younger one.
+    pub fn note_from(&mut self, row: u64, event: &Event)
+        ensures { self.new ≡ (if nat_lt self.old.station.row row then self.old else slot_after event.now self.old) }
+    {
+        if row <= self.station.row {
+            self.note(event);
+        }
     }
 }

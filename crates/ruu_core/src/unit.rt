@@ -166,7 +166,7 @@ impl Ruu {
         requires after { cycle < done }
         ensures { self.new ≡ at_row row (issuing cycle done) self.old }
     {
-        ring::note(&mut self.slots, &Event::Issued(row, cycle, done));
+        ring::note_from(&mut self.slots, row, &Event::Issued(row, cycle, done));
     }
 
     /// The row's access issues at the cycle, and returns at `done`.
@@ -176,7 +176,7 @@ impl Ruu {
         requires after { cycle < done }
         ensures { self.new ≡ at_row row (accessing cycle done) self.old }
     {
-        ring::note(&mut self.slots, &Event::Accessed(row, cycle, done));
+        ring::note_from(&mut self.slots, row, &Event::Accessed(row, cycle, done));
     }
 
     /// Drops every row above the named one, and answers how many.

@@ -9,3 +9,6 @@ pub loop-source-preserved : goal.loop-source-preserved
 loop-source-preserved c =
     step_each (source_after c.args.event.now) c.args.sources.now c.loop-source.sources (slice_set c.loop-source.sources c.loop-source.source-index c.note.new.self) c.loop-source.source-index c.note.new.self (omega arith) c.loop-source.invariant
     (λ x e. c.note.ensures ∙ ap (source_after c.args.event.now) (get_or_from_slice_get c.loop-source.sources c.loop-source.source-index x _ e)) refl
+
+pub note-requires : goal.note-requires
+note-requires c = c.requires

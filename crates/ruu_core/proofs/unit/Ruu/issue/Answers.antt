@@ -1,8 +1,13 @@
 use Rattle.ruu_core.proofs.Calls.{issue_sound, issue_returns}
+use Rattle.ruu_core.proofs.Stays.{issue_from}
 use Rattle.ruu_core.proofs.unit.Ruu.issue.Goals as goal
 
 pub invariant_of-self : goal.invariant_of-self
-invariant_of-self c = issue_sound c.self.inside.slots c.note.new.slots c.self.inside.last c.args.row c.args.cycle c.args.done c.self.invariant c.note.ensures
+invariant_of-self c =
+    issue_sound c.self.inside.slots c.note_from.new.slots c.self.inside.last c.args.row c.args.cycle c.args.done c.self.invariant
+    (issue_from c.self.inside.slots c.note_from.new.slots c.self.inside.last c.args.row c.args.cycle c.args.done c.self.invariant c.note_from.ensures)
 
 pub returns : goal.returns
-returns c = issue_returns c.self.inside.slots c.note.new.slots c.args.self.now c.self.inside.last c.self.inside.past c.args.row c.args.cycle c.args.done c.self.view_is c.note.ensures
+returns c =
+    issue_returns c.self.inside.slots c.note_from.new.slots c.args.self.now c.self.inside.last c.self.inside.past c.args.row c.args.cycle c.args.done c.self.view_is
+    (issue_from c.self.inside.slots c.note_from.new.slots c.self.inside.last c.args.row c.args.cycle c.args.done c.self.invariant c.note_from.ensures)
