@@ -1,6 +1,6 @@
 -- What the loop over the turns keeps.
-use Rattle.std.proofs.Common.{◌≡◌, ℕ, ◌+◌, ◌<◌, ◌≤◌, Some, None, Bool, true, false, List, [], ◌++◌, length, refl, sym, ap, ◌∙◌, subst, arith, length-append, inl, inr}
-use Rattle.std.specs.Prelude.{Option, option_to_list, nat_lt, ◌&&◌, ◌||◌, ◌⊎◌}
+use Rattle.std.proofs.Common.{◌≡◌, ℕ, ◌+◌, ◌<◌, ◌≤◌, Some, None, cond, Bool, true, false, List, [], ◌++◌, length, refl, sym, ap, ◌∙◌, subst, arith, length-append, inl, inr}
+use Rattle.std.specs.Prelude.{Option, option_to_list, nat_lt, ◌&&◌, ◌||◌, ◌⊎◌, if◌then◌else◌}
 use Rattle.std.proofs.lemmas.Bool.{ltb-true}
 use Rattle.fu_pool.specs.declared.pools.Pool.TheVariants as pool
 use Rattle.lsq_core.specs.Queue.{load_answer}
@@ -13,7 +13,7 @@ use Rattle.core_issue.specs.declared.turns.Turn.{Turn}
 use Rattle.core_issue.specs.Turns.{pool_for, has_free, has_unit, is_ok, may_go, next_turn, MayTurn, TurnOf}
 use Rattle.core_issue.specs.Stage.{rules_of, shared_of, is_ordered, main_issues, access_issues, StepBy, RanAll}
 use Rattle.core_issue.proofs.Next.{IsNext, found, over, passes_live, held}
-use Rattle.core_issue.proofs.Turned.{Step, Taken, Turned, taken, turned_start, turned_end}
+use Rattle.core_issue.proofs.Turned.{Step, Taken, Turned, taken, turned_start, turned_end, turned_spent}
 use Rattle.core_issue.proofs.Stays.{fits_step, above_count, fewer}
 
 -- what is known as a turn begins, and as the loop ends
@@ -114,9 +114,29 @@ goes_on c start old new after all t answer going rises e turn =
     longer : (32 + length all) + length (option_to_list answer) ≡ 32 + length (all ++ option_to_list answer)
     longer = omega (arith, length-append all (option_to_list answer))
 
-pub ends : (c : ℕ) (start now : Parts) (after : Option ℕ) (all : List Issued) → Going c start now after all → rises_to now.unit.last now.unit.rows ≡ true → next_turn c after now.unit.rows ≡ None
+ends : (c : ℕ) (start now : Parts) (after : Option ℕ) (all : List Issued) → Going c start now after all → rises_to now.unit.last now.unit.rows ≡ true → next_turn c after now.unit.rows ≡ None
     → Fits c 64 now × RanAll c start now all
 ends c start now after all going rises e = (
   fits_more c (32 + length all) 64 now (let w = going.wide in omega (arith, w)) going.fits,
   turned_end c start now after all going.turned rises (over c after now.unit rises e),
 )
+
+-- ---- turns within the width
+
+within : (b : Bool) (o : Option Turn) (t : Turn) → Some t ≡ cond b o None → o ≡ Some t
+within true o t e = sym e
+within false o t e = absurd cc
+
+pub next_is : (c n : ℕ) (now : Parts) (after : Option ℕ) (t : Turn) → Some t ≡ (if nat_lt n now.config.issue then next_turn c after now.unit.rows else None) → next_turn c after now.unit.rows ≡ Some t
+next_is c n now after t e = within (nat_lt n now.config.issue) (next_turn c after now.unit.rows) t e
+
+pub ends_within : (c n : ℕ) (start now : Parts) (after : Option ℕ) (all : List Issued) → Going c start now after all → rises_to now.unit.last now.unit.rows ≡ true → n ≡ length all
+    → None ≡ (if nat_lt n now.config.issue then next_turn c after now.unit.rows else None) → Fits c 64 now × RanAll c start now all
+ends_within c n start now after all going rises long e = by_width (nat_lt n now.config.issue) refl e
+  where
+    by_width : (b : Bool) → nat_lt n now.config.issue ≡ b → None ≡ cond b (next_turn c after now.unit.rows) None → Fits c 64 now × RanAll c start now all
+    by_width true is f = ends c start now after all going rises (sym f)
+    by_width false is f = (
+      fits_more c (32 + length all) 64 now (let w = going.wide in omega (arith, w)) going.fits,
+      turned_spent c start now after all going.turned (ap (λ k. nat_lt k now.config.issue) (sym long) ∙ is),
+    )

@@ -16,7 +16,7 @@ use Rattle.core_parts.specs.declared.parts.Parts.{Parts}
 use Rattle.core_parts.specs.Rows.{unit_class}
 use Rattle.core_issue.specs.declared.turns.Turn.{Turn}
 use Rattle.core_issue.specs.Turns.{pool_for, has_free, has_unit, is_ok, may_go, reaches, main_allowed, access_allowed, TurnBy, TurnOf}
-use Rattle.core_issue.specs.Stage.{Rules, Shared, rules_of, shared_of, main_issues, access_issues, StepBy, Ran, RanAll}
+use Rattle.core_issue.specs.Stage.{Rules, Shared, rules_of, shared_of, main_issues, access_issues, is_ordered, StepBy, Ran, RanAll}
 use Rattle.core_issue.proofs.Next.{IsNext, apart}
 
 -- ---- rows above a number and rows that aren't
@@ -148,6 +148,31 @@ module _ (c : ℕ) (k : Rules) (start : Shared) where
 
           access_off : may_access c (mid ++ left) r ≡ false → access_issues c (length all) k a.pools (mid ++ left) r ≡ false
           access_off e = rw e refl
+
+  -- where the width is used up no row issues
+  ran_spent : (mid older left : List Row) (all : List Issued) (a : Shared) → nat_lt (length all) k.config.issue ≡ false → Ran c k start older left all a → Ran c k start (mid ++ older) (mid ++ left) all a
+  ran_spent [] older left all a spent ran = ran
+  ran_spent (r ∷ mid) older left all a spent ran =
+      (mid ++ left, r, all, [], a, refl, sym (append-nil all), ran_spent mid older left all a spent ran, step)
+    where
+      third : (i o u w : Bool) → w ≡ false → (i && o && w && u) ≡ false
+      third i o u w e = rw e (by_value i o)
+        where
+          by_value : (i o : Bool) → (i && o && false && u) ≡ false
+          by_value true true = refl
+          by_value true false = refl
+          by_value false o = refl
+
+      step : StepBy (main_issues c (length all) k a.pools (mid ++ left) r) (access_issues c (length all) k a.pools (mid ++ left) r) c k a r r [] a
+      step =
+          subst (λ b. StepBy b (access_issues c (length all) k a.pools (mid ++ left) r) c k a r r [] a)
+          (sym (fourth (is_ready c (mid ++ left) r) (may_go k.config r.station) (is_ordered k.config (mid ++ left)) (has_unit c a.pools (pool_for (unit_class r.station))) (nat_lt (length all) k.config.issue) spent))
+          (subst (λ b. StepBy false b c k a r r [] a)
+          (sym (third (may_access c (mid ++ left) r) (is_ok (load_answer c r.station.row k.queue)) (has_free c a.pools pool.Port) (nat_lt (length all) k.config.issue) spent)) (refl, refl, refl))
+        where
+          fourth : (i g o u w : Bool) → w ≡ false → (i && g && o && w && u) ≡ false
+          fourth true g o u w e = third g o u w e
+          fourth false g o u w e = refl
 
 -- ---- order
 
@@ -427,4 +452,14 @@ turned_end c start now after all turned rises none =
       ran = subst (λ l. Ran c (rules_of start) (shared_of start) l (turned.younger ++ turned.left) all (shared_of now)) (sym turned.was)
           (ran_idle c (rules_of start) (shared_of start) turned.younger turned.older turned.left all (shared_of now) turned.ran
           (idle_of c now.unit [] turned.younger turned.left rises (ap (λ (p : Parts). p.unit.rows) turned.is) (quiet_all c after now.unit.rows turned.younger none turned.over)));
+    }
+
+pub turned_spent : (c : ℕ) (start now : Parts) (after : Option ℕ) (all : List Issued) → Turned c start now after all → nat_lt (length all) now.config.issue ≡ false → RanAll c start now all
+turned_spent c start now after all turned spent =
+    record {
+      left = turned.younger ++ turned.left;
+      parts = turned.is;
+      ran = subst (λ l. Ran c (rules_of start) (shared_of start) l (turned.younger ++ turned.left) all (shared_of now)) (sym turned.was)
+          (ran_spent c (rules_of start) (shared_of start) turned.younger turned.older turned.left all (shared_of now)
+          (ap (λ (p : Parts). nat_lt (length all) p.config.issue) (sym turned.is) ∙ spent) turned.ran);
     }

@@ -27,7 +27,7 @@ pub fn issue(parts: &mut Parts, cycle: u64) -> ArrayVec<Issued, 32>
 {
     let mut issued = ArrayVec::new();
     let mut after = None;
-    while let Some(t) = turns::next_turn(&parts.unit, cycle, after) {
+    while let Some(t) = turns::next_turn_within(parts, cycle, issued.len(), after) {
         let answer = turns::take_turn(parts, cycle, issued.len(), t);
         add(&mut issued, answer);
         after = Some(t.row);

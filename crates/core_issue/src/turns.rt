@@ -1,11 +1,11 @@
 //! Whose turn it is, and the turns.
-ghost use Rattle.std.specs.Prelude.{◌≡◌, ◌+◌, ◌^◌, ◌<◌, ◌≤◌, ℕ, true, false, Some, IsTrue, option_map};
+ghost use Rattle.std.specs.Prelude.{◌≡◌, ◌+◌, ◌^◌, ◌<◌, ◌≤◌, ℕ, true, false, not, Some, None, IsTrue, option_map, nat_lt, ◌||◌, if◌then◌else◌};
 ghost use Rattle.fu_pool.specs.declared.pools.Pool.TheVariants as pool;
 ghost use Rattle.lsq_core.specs.Queue.{load_answer, holds_load};
 ghost use Rattle.mem_hier.specs.Stands as hierarchy;
 ghost use Rattle.mem_hier.specs.declared.config.HierConfig.{HierConfig};
 ghost use Rattle.ruu_core.specs.declared.station.Station.{Station as RowStation};
-ghost use Rattle.ruu_core.specs.Window.{is_above, is_ready, may_access, is_live, passes, row_of, rises_to};
+ghost use Rattle.ruu_core.specs.Window.{is_above, is_ready, may_access, is_live, is_unissued, least, passes, row_of, rises_to};
 ghost use Rattle.core_parts.specs.Fits.{IsInTime};
 ghost use Rattle.core_parts.specs.Rows.{unit_class};
 ghost use Rattle.core_issue.specs.Turns.{pool_for, has_free, has_unit, may_go, reaches, sooner, is_that, next_turn, main_allowed, access_allowed, Returns, MainIssued, AccessIssued, TurnBy, TurnOf, MayTurn};
@@ -52,7 +52,7 @@ fn is_that(row: u64, found: Option<u64>) -> bool
 }
 
 /// The least row above `after` whose main operation is ready at the cycle, or whose access is.
-pub fn next_turn(unit: &Ruu, cycle: u64, after: Option<u64>) -> Option<Turn>
+fn next_turn(unit: &Ruu, cycle: u64, after: Option<u64>) -> Option<Turn>
     requires { IsTrue (is_above unit.now.past cycle) }
     ensures next { result ≡ next_turn cycle after unit.now.rows }
     ensures rises { rises_to unit.now.last unit.now.rows ≡ true }
@@ -67,6 +67,20 @@ pub fn next_turn(unit: &Ruu, cycle: u64, after: Option<u64>) -> Option<Turn>
             main: is_that(row, ready),
             access: is_that(row, access),
         }),
+    }
+}
+
+/// The row that has the next turn after n operations issued in the cycle, and none once the width is used up.
+pub fn next_turn_within(parts: &Parts, cycle: u64, n: usize, after: Option<u64>) -> Option<Turn>
+    requires { IsTrue (is_above parts.now.unit.past cycle) }
+    ensures next { result ≡ (if nat_lt n parts.now.config.issue then next_turn cycle after parts.now.unit.rows else None) }
+    ensures rises { rises_to parts.now.unit.last parts.now.unit.rows ≡ true }
+{
+    if n < parts.config.issue as usize {
+        next_turn(&parts.unit, cycle, after)
+    } else {
+        let _room = parts.unit.room(); // says that the numbers of the live rows rise
+        None
     }
 }
 
@@ -87,6 +101,17 @@ fn reaches(first: Option<u64>, row: u64) -> bool
     }
 }
 
+/// Whether order lets the main operation of the row issue: where issue is in order, all older ones have.
+fn is_in_order(parts: &Parts, row: u64) -> bool
+    ensures { result ≡ (not parts.now.config.in_order || reaches (least is_unissued parts.now.unit.rows) row) }
+{
+    if parts.config.in_order {
+        reaches(parts.unit.first_unissued(), row)
+    } else {
+        true
+    }
+}
+
 /// Whether the main operation of the row may issue, the n-th of the cycle, as far as order, paths, width and units say.
 fn main_allowed(parts: &Parts, cycle: u64, n: usize, row: u64) -> bool
     requires live { IsTrue (is_live row parts.now.unit.rows) }
@@ -96,9 +121,9 @@ fn main_allowed(parts: &Parts, cycle: u64, n: usize, row: u64) -> bool
 {
     let s = parts.unit.station(row);
     let going = may_go(&parts.config, s);
-    let ordered = reaches(parts.unit.first_unissued(), row);
+    let ordered = is_in_order(parts, row);
     let free = units::has_unit(&parts.pools, units::class_of(s), cycle);
-    going && (!parts.config.in_order || ordered) && n < parts.config.issue as usize && free
+    going && ordered && n < parts.config.issue as usize && free
 }
 
 /// The main operation of the row issues.
