@@ -13,3 +13,4 @@ mod Whole
 mod Turned
 mod Admit
 mod Fitting
+pub mod Wanting

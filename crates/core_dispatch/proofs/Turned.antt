@@ -168,7 +168,7 @@ module _ (trace : Trace) (n : ℕ) (called : Bool) (parts : Parts) where
 
 -- ---- the answers
 
-path_of : (b w : Bool) → b ≡ not w → b ≡ false → w ≡ true
+pub path_of : (b w : Bool) → b ≡ not w → b ≡ false → w ≡ true
 path_of b true e f = refl
 path_of b false e f = absurd (both (e) f)
 
@@ -259,7 +259,7 @@ module _ (g : Given) (sound : IsSound g) (c n : ℕ) (called : Bool) (old : Part
           none false = refl
 
   -- the row enters
-  yes_of : (h : FetchRow) (e : HeadAt h) (v : Verdict) → nat_lt h.queued c ≡ true → verdict_at g.trace n called old (Some h) ≡ v → enters v ≡ true
+  pub yes_of : (h : FetchRow) (e : HeadAt h) (v : Verdict) → nat_lt h.queued c ≡ true → verdict_at g.trace n called old (Some h) ≡ v → enters v ≡ true
       → dispatches set c (e.passed ++ sweep (dispatch_row set c) older) e.row ≡ true
   yes_of h e v q is lets =
       tested g sound c n called old fits younger older k h e

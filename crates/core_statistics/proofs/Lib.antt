@@ -2,3 +2,4 @@ mod Sums
 mod Marks
 mod Grow
 mod Staged
+pub mod Standing

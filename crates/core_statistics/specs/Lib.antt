@@ -1,3 +1,4 @@
 pub mod Counted
 pub mod CountLaws
 pub mod StageCounts
+pub mod Standing

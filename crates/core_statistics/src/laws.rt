@@ -4,6 +4,7 @@ ghost use Rattle.ooo_table.specs.Table.{Setting};
 ghost use Rattle.ooo_table.specs.Machine.{Given};
 ghost use Rattle.core_statistics.specs.CountLaws.{CountsGrow};
 ghost use Rattle.core_statistics.specs.StageCounts.{StagesCount};
+ghost use Rattle.core_statistics.specs.Standing.{CountsStand};
 
 /// The counts of the table grow in each stage by what the stage did.
 pub fn counts_grow()
@@ -13,4 +14,9 @@ pub fn counts_grow()
 /// What a core's calls add to counts of the table is what the table's rows show of each stage.
 pub fn stages_count()
     ensures { (g : Given) (c : ℕ) → StagesCount g c }
+{}
+
+/// What a core counts of each stage keeps its counts those of the run.
+pub fn counts_stand()
+    ensures { (g : Given) (c : ℕ) → CountsStand g c }
 {}

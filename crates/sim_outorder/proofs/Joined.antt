@@ -5,6 +5,7 @@ use Rattle.std.proofs.lemmas.List.{append_assoc, append-nil, map-append}
 use Rattle.pisa_step.specs.declared.cause.Cause.{Cause}
 use Rattle.pisa_step.specs.declared.cause.Cause.TheVariants as cause
 use Rattle.event_trace.specs.declared.trace.Trace.{Trace}
+use Rattle.sim_safe.specs.State.{Storage}
 use Rattle.sim_safe.specs.declared.observer.Meaning.{Meaning}
 use Rattle.ooo_table.specs.declared.event.Event.{Event}
 use Rattle.ooo_table.specs.declared.event.EndWord.TheVariants as told
@@ -23,6 +24,9 @@ use Rattle.core_watch.specs.Items.{items_in, items_at}
 use Rattle.core_watch.specs.StageItems.{commit_items, staged_items, written_events, squashed_events, issued_events, dispatched_events, fetched_events}
 use Rattle.core_watch.specs.StageItemsLaws.{ShownByStage}
 use Rattle.core_watch.proofs.Ends.{by_stage, shown_at_commit}
+use Rattle.core_statistics.specs.declared.stats.CoreStats.{CoreStats}
+use Rattle.core_statistics.specs.Counted.{with_cycle}
+use Rattle.core_statistics.proofs.Standing.{counts_stand}
 use Rattle.watched_commit.specs.declared.stage.Committed.{Committed}
 use Rattle.watched_commit.specs.declared.stage.Committed.TheVariants as stage
 use Rattle.watched_commit.specs.Stage.{budget, last_row, rows_behind, stage_items, CommitsRows, IsWhole, EndsWith, Watched}
@@ -34,7 +38,7 @@ use Rattle.sim_outorder.specs.declared.answers.Turn.{Turn}
 use Rattle.sim_outorder.specs.declared.answers.Turn.TheVariants as turn
 use Rattle.sim_outorder.specs.declared.answers.CoreFault.{CoreFault}
 use Rattle.sim_outorder.specs.declared.answers.CoreFault.TheVariants as fault
-use Rattle.sim_outorder.specs.Cycle.{TakesSome, GoesOn, StopsSo, EndsBehind, fetched_items, dispatch_items, issue_items, recovery_items, Runs, FromFetch, FromDispatch, FromIssue, FromRecovery, CommitEnds, EndsFor, EndsSo, cycle_items, CycleRuns, CycleSo}
+use Rattle.sim_outorder.specs.Cycle.{TakesSome, GoesOn, StopsSo, EndsBehind, MemoryOf, fetched_items, dispatch_items, issue_items, recovery_items, Runs, FromFetch, FromDispatch, FromIssue, FromRecovery, CommitEnds, EndsFor, EndsSo, cycle_items, CycleRuns, CycleSo}
 
 pub no_fetches : (b : Bool) (xs : List Shown) → b ≡ true → (if b then [] else xs) ≡ []
 no_fetches b xs e = ap (λ x. cond {A = List Shown} x [] xs) e
@@ -64,21 +68,25 @@ module _ {S F : Type 0} (took cut : S → List Shown → S → Type 0) where
 
   -- ---- fetch
 
-  pub fetch_on : {T : Type 0} (c : ℕ) (old new : Parts) (before now : S) (x : T)
-      → WatchedFetch {S = S} {T = T} {F = F} took cut c old new before now (Ok x) → FromFetch {S = S} {F = F} took cut c old new before now (Ok turn.Going)
-  fetch_on c old new before now x w g sound e stands =
-      let k = w g sound stands in
+  pub fetch_on : {T : Type 0} (c : ℕ) (old new : Parts) (counted counts : CoreStats) (before now : S) (x : T)
+      → WatchedFetch {S = S} {T = T} {F = F} took cut c old new counted counts before now (Ok x)
+      → FromFetch {S = S} {F = F} took cut c old new counted counts before now (Ok turn.Going)
+  fetch_on c old new counted counts before now x w g sound e stands stats m =
+      let (k, becomes) = w g sound stands in
       record {
-        ends = (e, k.stands);
+        memory = tt;
+        ends = (e, k.stands, becomes (suc c) stats);
         shown = λ start h t. subst (λ (l : List Shown). took start (behind l h) now)
             (sym (all_fetches (stops_in (setting_of g) c (table (setting_of g) c)) (events (fetched_events g c (table (setting_of g) (suc c)).rows)) e)) (k.shown start h t);
       }
 
-  pub fetch_cut : {T : Type 0} (c : ℕ) (old new : Parts) (before now : S) (f : F)
-      → WatchedFetch {S = S} {T = T} {F = F} took cut c old new before now (Err f) → FromFetch {S = S} {F = F} took cut c old new before now (Err (fault.Watch f))
-  fetch_cut c old new before now f w g sound e stands =
-      let k = w g sound stands in
+  pub fetch_cut : {T : Type 0} (c : ℕ) (old new : Parts) (counted counts : CoreStats) (before now : S) (f : F)
+      → WatchedFetch {S = S} {T = T} {F = F} took cut c old new counted counts before now (Err f)
+      → FromFetch {S = S} {F = F} took cut c old new counted counts before now (Err (fault.Watch f))
+  fetch_cut c old new counted counts before now f w g sound e stands stats m =
+      let (k, becomes) = w g sound stands in
       record {
+        memory = tt;
         ends = tt;
         shown = λ start h t. subst (λ (l : List Shown). CutWithin cut start h l now)
             (sym (all_fetches (stops_in (setting_of g) c (table (setting_of g) c)) (events (fetched_events g c (table (setting_of g) (suc c)).rows)) e)) (k.shown start h t);
@@ -86,40 +94,43 @@ module _ {S F : Type 0} (took cut : S → List Shown → S → Type 0) where
 
   -- ---- dispatch
 
-  pub dispatch_on : (trace : Trace) (c : ℕ) (old mid new : Parts) (before between now : S) (result : Result Turn (CoreFault F))
-      → WatchedDispatch {S = S} {F = F} took cut trace c old mid before between ending.Over → FromFetch took cut c mid new between now result
-      → FromDispatch took cut trace c old new before now result
-  dispatch_on trace c old mid new before between now result w f g sound same stands =
+  pub dispatch_on : (trace : Trace) (c : ℕ) (old mid new : Parts) (counted half counts : CoreStats) (before between now : S) (result : Result Turn (CoreFault F))
+      → WatchedDispatch {S = S} {F = F} took cut trace c old mid counted half before between ending.Over → FromFetch took cut c mid new half counts between now result
+      → FromDispatch took cut trace c old new counted counts before now result
+  dispatch_on trace c old mid new counted half counts before between now result w f g sound same stands stats =
       let k = w g sound same stands in
-      let rest = f g sound k.over.stops k.over.stands in
+      let rest = f g sound k.over.stops k.over.stands (k.stats (suc c) stats) old.arch in
       record {
+        memory = rest.memory;
         ends = rest.ends;
         shown = λ start h t. some_both start (events (dispatches_of g c)) (fetched_items g c) h now result (rest.shown start (behind (events (dispatches_of g c)) h) (k.shown start h t));
       }
 
-  pub dispatch_stops : (trace : Trace) (c : ℕ) (old new : Parts) (before now : S) (why : Cause)
-      → WatchedDispatch {S = S} {F = F} took cut trace c old new before now (ending.Stops why)
-      → FromDispatch {S = S} {F = F} took cut trace c old new before now (Ok (turn.Ended why))
-  dispatch_stops trace c old new before now why w g sound same stands =
+  pub dispatch_stops : (trace : Trace) (c : ℕ) (old new : Parts) (counted counts : CoreStats) (before now : S) (why : Cause)
+      → WatchedDispatch {S = S} {F = F} took cut trace c old new counted counts before now (ending.Stops why)
+      → FromDispatch {S = S} {F = F} took cut trace c old new counted counts before now (Ok (turn.Ended why))
+  dispatch_stops trace c old new counted counts before now why w g sound same stands stats =
       let k = w g sound same stands in
       let none : fetched_items g c ≡ [] =
       no_fetches (stops_in (setting_of g) c (table (setting_of g) c)) (events (fetched_events g c (table (setting_of g) (suc c)).rows)) (k.0).over.stops in
       record {
-        ends = record { stops = (k.0).over.stops; stands = (k.0).over.stands; cause = k.1 };
+        memory = tt;
+        ends = record { stops = (k.0).over.stops; stands = (k.0).over.stands; cause = k.1; stats = (k.0).stats (suc c) stats };
         shown = λ start h t.
             let all : events (dispatches_of g c) ++ fetched_items g c ≡ events (dispatches_of g c) = ap (λ l. events (dispatches_of g c) ++ l) none ∙ append-nil (events (dispatches_of g c)) in
             subst (λ (l : List Shown). took start (behind l h) now) (sym all) ((k.0).shown start h t);
       }
 
-  pub dispatch_wants : (trace : Trace) (c : ℕ) (old new : Parts) (before now : S)
-      → WatchedDispatch {S = S} {F = F} took cut trace c old new before now ending.OutOfMemory
-      → FromDispatch {S = S} {F = F} took cut trace c old new before now (Err fault.OutOfMemory)
-  dispatch_wants trace c old new before now w g sound same stands =
+  pub dispatch_wants : (trace : Trace) (c : ℕ) (old new : Parts) (counted counts : CoreStats) (before now : S)
+      → WatchedDispatch {S = S} {F = F} took cut trace c old new counted counts before now ending.OutOfMemory
+      → FromDispatch {S = S} {F = F} took cut trace c old new counted counts before now (Err fault.OutOfMemory)
+  dispatch_wants trace c old new counted counts before now w g sound same stands stats =
       let k = w g sound same stands in
       record {
         ends = tt;
+        memory = k.1;
         shown = λ start h t.
-            let (front, more, e, took_front) = k start h t in (
+            let (front, more, e, took_front) = k.0 start h t in (
               events front,
               events more ++ fetched_items g c,
               ap (λ l. l ++ fetched_items g c) (ap events e ∙ map-append Happened front more) ∙ append_assoc (events front) (events more) (fetched_items g c),
@@ -127,48 +138,53 @@ module _ {S F : Type 0} (took cut : S → List Shown → S → Type 0) where
             );
       }
 
-  pub dispatch_cut : (trace : Trace) (c : ℕ) (old new : Parts) (before now : S) (f : F)
-      → WatchedDispatch {S = S} {F = F} took cut trace c old new before now (ending.Watch f)
-      → FromDispatch {S = S} {F = F} took cut trace c old new before now (Err (fault.Watch f))
-  dispatch_cut trace c old new before now f w g sound same stands =
+  pub dispatch_cut : (trace : Trace) (c : ℕ) (old new : Parts) (counted counts : CoreStats) (before now : S) (f : F)
+      → WatchedDispatch {S = S} {F = F} took cut trace c old new counted counts before now (ending.Watch f)
+      → FromDispatch {S = S} {F = F} took cut trace c old new counted counts before now (Err (fault.Watch f))
+  dispatch_cut trace c old new counted counts before now f w g sound same stands stats =
       let k = w g sound same stands in
-      record { ends = tt; shown = λ start h t. some_cut start (events (dispatches_of g c)) (fetched_items g c) h now f (k start h t) }
+      record { ends = tt; memory = tt; shown = λ start h t. some_cut start (events (dispatches_of g c)) (fetched_items g c) h now f (k start h t) }
 
   -- ---- issue
 
-  pub issue_on : {T : Type 0} (trace : Trace) (c : ℕ) (old mid new : Parts) (before between now : S) (x : T) (result : Result Turn (CoreFault F))
-      → WatchedIssue {S = S} {T = T} {F = F} took cut c old mid before between (Ok x) → FromDispatch took cut trace c mid new between now result
-      → FromIssue took cut trace c old new before now result
-  issue_on trace c old mid new before between now x result w f g sound same stands =
-      let k = w g sound stands in
-      let rest = f g sound same k.stands in
+  pub issue_on : {T : Type 0} (trace : Trace) (c : ℕ) (old mid new : Parts) (counted half counts : CoreStats) (before between now : S) (x : T) (result : Result Turn (CoreFault F))
+      → WatchedIssue {S = S} {T = T} {F = F} took cut c old mid counted half before between (Ok x) → FromDispatch took cut trace c mid new half counts between now result
+      → FromIssue took cut trace c old new counted counts before now result
+  issue_on trace c old mid new counted half counts before between now x result w f g sound same stands stats =
+      let (k, becomes, arch) = w g sound stands in
+      let rest = f g sound same k.stands (becomes (suc c) stats) in
+      let kept : MemoryOf g c old.arch result = subst (λ (a : Storage). MemoryOf g c a result) arch rest.memory in
       let es = events (issued_events g c (after_issue (setting_of g) c).rows) in
-      record { ends = rest.ends; shown = λ start h t. some_both start es (dispatch_items g c) h now result (rest.shown start (behind es h) (k.shown start h t)) }
+      record { ends = rest.ends; memory = kept; shown = λ start h t. some_both start es (dispatch_items g c) h now result (rest.shown start (behind es h) (k.shown start h t)) }
 
-  pub issue_cut : {T : Type 0} (trace : Trace) (c : ℕ) (old new : Parts) (before now : S) (f : F)
-      → WatchedIssue {S = S} {T = T} {F = F} took cut c old new before now (Err f) → FromIssue {S = S} {F = F} took cut trace c old new before now (Err (fault.Watch f))
-  issue_cut trace c old new before now f w g sound same stands =
-      let k = w g sound stands in
-      record { ends = tt; shown = λ start h t. some_cut start (events (issued_events g c (after_issue (setting_of g) c).rows)) (dispatch_items g c) h now f (k.shown start h t) }
+  pub issue_cut : {T : Type 0} (trace : Trace) (c : ℕ) (old new : Parts) (counted counts : CoreStats) (before now : S) (f : F)
+      → WatchedIssue {S = S} {T = T} {F = F} took cut c old new counted counts before now (Err f)
+      → FromIssue {S = S} {F = F} took cut trace c old new counted counts before now (Err (fault.Watch f))
+  issue_cut trace c old new counted counts before now f w g sound same stands stats =
+      let (k, becomes, arch) = w g sound stands in
+      record { ends = tt; memory = tt; shown = λ start h t. some_cut start (events (issued_events g c (after_issue (setting_of g) c).rows)) (dispatch_items g c) h now f (k.shown start h t) }
 
   -- ---- recovery
 
-  pub recovery_on : {T : Type 0} (trace : Trace) (c : ℕ) (old mid new : Parts) (before between now : S) (x : T) (result : Result Turn (CoreFault F))
-      → WatchedRecovery {S = S} {T = T} {F = F} took cut c old mid before between (Ok x) → FromIssue took cut trace c mid new between now result
-      → FromRecovery took cut trace c old new before now result
-  recovery_on trace c old mid new before between now x result w f g sound same stands =
-      let k = w g sound stands in
-      let rest = f g sound same k.stands in
+  pub recovery_on : {T : Type 0} (trace : Trace) (c : ℕ) (old mid new : Parts) (counted half counts : CoreStats) (before between now : S) (x : T) (result : Result Turn (CoreFault F))
+      → WatchedRecovery {S = S} {T = T} {F = F} took cut c old mid counted half before between (Ok x) → FromIssue took cut trace c mid new half counts between now result
+      → FromRecovery took cut trace c old new counted counts before now result
+  recovery_on trace c old mid new counted half counts before between now x result w f g sound same stands stats =
+      let (k, becomes, arch) = w g sound stands in
+      let rest = f g sound same k.stands (becomes (suc c) stats) in
+      let kept : MemoryOf g c old.arch result = subst (λ (a : Storage). MemoryOf g c a result) arch rest.memory in
       record {
         ends = rest.ends;
+        memory = kept;
         shown = λ start h t. some_both start (events (recovery_events g c)) (issue_items g c) h now result (rest.shown start (behind (events (recovery_events g c)) h) (k.shown start h t));
       }
 
-  pub recovery_cut : {T : Type 0} (trace : Trace) (c : ℕ) (old new : Parts) (before now : S) (f : F)
-      → WatchedRecovery {S = S} {T = T} {F = F} took cut c old new before now (Err f) → FromRecovery {S = S} {F = F} took cut trace c old new before now (Err (fault.Watch f))
-  recovery_cut trace c old new before now f w g sound same stands =
-      let k = w g sound stands in
-      record { ends = tt; shown = λ start h t. some_cut start (events (recovery_events g c)) (issue_items g c) h now f (k.shown start h t) }
+  pub recovery_cut : {T : Type 0} (trace : Trace) (c : ℕ) (old new : Parts) (counted counts : CoreStats) (before now : S) (f : F)
+      → WatchedRecovery {S = S} {T = T} {F = F} took cut c old new counted counts before now (Err f)
+      → FromRecovery {S = S} {F = F} took cut trace c old new counted counts before now (Err (fault.Watch f))
+  recovery_cut trace c old new counted counts before now f w g sound same stands stats =
+      let (k, becomes, arch) = w g sound stands in
+      record { ends = tt; memory = tt; shown = λ start h t. some_cut start (events (recovery_events g c)) (issue_items g c) h now f (k.shown start h t) }
 
 -- ---- what is shown of a whole cycle
 
@@ -221,15 +237,16 @@ module _ (g : Given) (c most : ℕ) where
   end_behind e = ap (or_stop stops) e
 
 module _ {S F : Type 0} (took cut : S → List Shown → S → Type 0) (faults : S → ℕ × ℕ) (means : F → Meaning) (takes_none : S → Type 0) where
-  pub commits_on : (trace : Trace) (c most n : ℕ) (old mid new : Parts) (before between now : S) (result : Result Turn (CoreFault F))
-      → CommitsRows {F = F} c most old mid (Ok (stage.All n))
+  pub commits_on : (trace : Trace) (c most n : ℕ) (old mid new : Parts) (counted begun half counts : CoreStats) (before between now : S) (result : Result Turn (CoreFault F))
+      → begun ≡ with_cycle counted → CommitsRows {F = F} c most old mid begun half (Ok (stage.All n))
       → Watched took cut faults means takes_none trace c most old before between (Ok (stage.All n))
-      → FromRecovery took cut trace c mid new between now result → CycleSo took cut trace c most old new before now result
-  commits_on trace c most n old mid new before between now result rows watched from g sound same stands =
-      let whole = rows g sound stands in
-      let rest = from g sound same whole.stands in
+      → FromRecovery took cut trace c mid new half counts between now result → CycleSo took cut trace c most old new counted counts before now result
+  commits_on trace c most n old mid new counted begun half counts before between now result begins rows watched from g sound same stands stats =
+      let (whole, arch) = rows g sound stands in
+      let rest = from g sound same whole.stands (whole.stats (suc c) (begins ∙ (counts_stand g c).begin counted stats)) in
       record {
         ends = by_result result rest.ends whole.none;
+        memory = subst (λ (a : Storage). MemoryOf g c a result) arch rest.memory;
         shown = λ start h t.
             let first = subst (λ (l : List Shown). took start (behind l h) between) (first_items g c most whole.none) (watched.items start h t g sound same stands) in
             subst (λ (l : List Shown). TakesSome took cut start h l now result) (sym (whole_items g c most sound whole.none))
@@ -237,37 +254,39 @@ module _ {S F : Type 0} (took cut : S → List Shown → S → Type 0) (faults :
             (rest.shown start (behind (commit_items g c (after_commit (setting_of g) c).rows) h) first));
       }
     where
-      by_result : (r : Result Turn (CoreFault F)) → EndsBehind g c new r → last_row g c most ≡ None → EndsSo g c most new r
-      by_result (Ok turn.Going) k e = (end_behind g c most e ∙ ap (λ b. or_stop b None) k.0, k.1)
+      by_result : (r : Result Turn (CoreFault F)) → EndsBehind g c new counts r → last_row g c most ≡ None → EndsSo g c most new counts r
+      by_result (Ok turn.Going) k e = (end_behind g c most e ∙ ap (λ b. or_stop b None) k.0, k.1, k.2)
       by_result (Ok turn.Spent) k e = absurd k
       by_result (Ok (turn.Ended why)) k e = inr (end_behind g c most e ∙ ap (λ b. or_stop b None) k.stops, k)
       by_result (Err f) k e = tt
 
-  pub commits_spent : (trace : Trace) (c most : ℕ) (old new : Parts) (before now : S)
-      → CommitsRows {F = F} c most old new (Ok stage.Spent) → Watched took cut faults means takes_none trace c most old before now (Ok stage.Spent)
-      → CycleSo {S = S} {F = F} took cut trace c most old new before now (Ok turn.Spent)
-  commits_spent trace c most old new before now rows watched g sound same stands =
-      let (row, ends) = rows g sound stands in
+  pub commits_spent : (trace : Trace) (c most : ℕ) (old new : Parts) (counted begun counts : CoreStats) (before now : S)
+      → begun ≡ with_cycle counted → CommitsRows {F = F} c most old new begun counts (Ok stage.Spent) → Watched took cut faults means takes_none trace c most old before now (Ok stage.Spent)
+      → CycleSo {S = S} {F = F} took cut trace c most old new counted counts before now (Ok turn.Spent)
+  commits_spent trace c most old new counted begun counts before now begins rows watched g sound same stands stats =
+      let ((row, ends), arch) = rows g sound stands in
       record {
-        ends = (row, record { ends = ends.ends; stands = ends.stands }, ends.told);
+        memory = tt;
+        ends = (row, record { ends = ends.ends; stands = ends.stands; stats = ends.stats (suc c) (begins ∙ (counts_stand g c).begin counted stats) }, ends.told);
         shown = λ start h t. subst (λ (l : List Shown). took start (behind l h) now) (last_items g c most row ends.last) (watched.items start h t g sound same stands);
       }
 
-  pub commits_exit : (trace : Trace) (c most code : ℕ) (old new : Parts) (before now : S)
-      → CommitsRows {F = F} c most old new (Ok (stage.Exited code)) → Watched took cut faults means takes_none trace c most old before now (Ok (stage.Exited code))
-      → CycleSo {S = S} {F = F} took cut trace c most old new before now (Ok (turn.Ended (cause.Exited code)))
-  commits_exit trace c most code old new before now rows watched g sound same stands =
-      let (row, ends) = rows g sound stands in
+  pub commits_exit : (trace : Trace) (c most code : ℕ) (old new : Parts) (counted begun counts : CoreStats) (before now : S)
+      → begun ≡ with_cycle counted → CommitsRows {F = F} c most old new begun counts (Ok (stage.Exited code)) → Watched took cut faults means takes_none trace c most old before now (Ok (stage.Exited code))
+      → CycleSo {S = S} {F = F} took cut trace c most old new counted counts before now (Ok (turn.Ended (cause.Exited code)))
+  commits_exit trace c most code old new counted begun counts before now begins rows watched g sound same stands stats =
+      let ((row, ends), arch) = rows g sound stands in
       record {
-        ends = inl (row, code, record { ends = ends.ends; stands = ends.stands }, ends.told, refl);
+        memory = tt;
+        ends = inl (row, code, record { ends = ends.ends; stands = ends.stands; stats = ends.stats (suc c) (begins ∙ (counts_stand g c).begin counted stats) }, ends.told, refl);
         shown = λ start h t. subst (λ (l : List Shown). took start (behind l h) now) (last_items g c most row ends.last) (watched.items start h t g sound same stands);
       }
 
-  pub commits_cut : (trace : Trace) (c most : ℕ) (old new : Parts) (before now : S) (f : F)
+  pub commits_cut : (trace : Trace) (c most : ℕ) (old new : Parts) (counted counts : CoreStats) (before now : S) (f : F)
       → Watched took cut faults means takes_none trace c most old before now (Err f)
-      → CycleSo {S = S} {F = F} took cut trace c most old new before now (Err (fault.Watch f))
-  commits_cut trace c most old new before now f watched g sound same stands =
-      record { ends = tt; shown = λ start h t. by_last start h (last_row g c most) refl (watched.items start h t g sound same stands) }
+      → CycleSo {S = S} {F = F} took cut trace c most old new counted counts before now (Err (fault.Watch f))
+  commits_cut trace c most old new counted counts before now f watched g sound same stands stats =
+      record { ends = tt; memory = tt; shown = λ start h t. by_last start h (last_row g c most) refl (watched.items start h t g sound same stands) }
     where
       by_last : (start : S) (h : List Shown) (m : Option ℕ) → last_row g c most ≡ m → CutWithin cut start h (stage_items g c most) now
           → CutWithin cut start h (cycle_items g c most) now

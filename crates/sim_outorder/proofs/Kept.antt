@@ -10,6 +10,8 @@ use Rattle.core_parts.specs.declared.parts.Parts.{Parts}
 use Rattle.core_parts.specs.Fits.{Fits}
 use Rattle.core_start.specs.Start.{Starts}
 use Rattle.core_watch.specs.Shown.{Shown}
+use Rattle.core_statistics.specs.declared.stats.CoreStats.{CoreStats}
+use Rattle.core_statistics.specs.Counted.{no_counts}
 use Rattle.sim_outorder.specs.declared.answers.Turn.{Turn}
 use Rattle.sim_outorder.specs.declared.answers.Turn.TheVariants as turn
 use Rattle.sim_outorder.specs.declared.answers.CoreFault.{CoreFault}
@@ -20,12 +22,14 @@ use Rattle.sim_outorder.specs.Running.{phase_after, IsReady, StaysReady, LeftRea
 
 -- ---- the start
 
-pub ready_first : (parts : Parts) (core : Core) → core ≡ record { parts = parts; cycle = 0; phase = phase.Running } → Fits 0 0 parts → IsReady core
-ready_first parts core e f = subst IsReady (sym e) (record { running = refl; fits = f })
+pub ready_first : (parts : Parts) (stats : CoreStats) (core : Core) → core ≡ record { parts = parts; stats = stats; cycle = 0; phase = phase.Running } → Fits 0 0 parts → IsReady core
+ready_first parts stats core e f = subst IsReady (sym e) (record { running = refl; fits = f })
 
-pub begins_first : (c : OooConfig) (m : Storage) (h : Held) (v : Predictor) (parts : Parts) (core : Core) → core ≡ record { parts = parts; cycle = 0; phase = phase.Running }
-    → Starts c m h v parts → Begins c m h v core
-begins_first c m h v parts core e s = subst (Begins c m h v) (sym e) (record { none = refl; stands = λ g given. s.stands g given })
+pub begins_first : (c : OooConfig) (m : Storage) (h : Held) (v : Predictor) (parts : Parts) (stats : CoreStats) (core : Core)
+    → core ≡ record { parts = parts; stats = stats; cycle = 0; phase = phase.Running } → stats ≡ no_counts → Starts c m h v parts → Begins c m h v core
+begins_first c m h v parts stats core e none s =
+    subst (Begins c m h v) (sym (e ∙ ap (λ (o : CoreStats). record { parts = parts; stats = o; cycle = 0; phase = phase.Running }) none))
+    (record { none = refl; stands = λ g given. record { stands = s.stands g given; stats = refl } })
 
 -- ---- a cycle
 
@@ -41,7 +45,7 @@ pub left_ready : {F : Type 0} (old new : Core) (result : Result Turn (CoreFault 
 left_ready old new result p e f = record { phase_is = p; cycles = e; ready = stays_ready old new result p e f }
 
 pub cycles_on : {S F : Type 0} (took cut : S → List Shown → S → Type 0) (trace : Trace) (most : ℕ) (old new : Core) (before now : S) (result : Result Turn (CoreFault F))
-    → CycleSo took cut trace old.cycle most old.parts new.parts before now result → Cycles took cut trace most old new before now result
+    → CycleSo took cut trace old.cycle most old.parts new.parts old.stats new.stats before now result → Cycles took cut trace most old new before now result
 cycles_on took cut trace most old new before now result so g sound same stands =
-    let k = so g sound same stands in
-    record { ends = k.ends; shown = k.shown }
+    let k = so g sound same stands.stands stands.stats in
+    record { ends = k.ends; memory = k.memory; shown = k.shown }

@@ -10,6 +10,7 @@ use crate::answers::{CoreFault, Turn};
 use crate::stages::stages;
 use bpred_unit::Predictor;
 use core_parts::Parts;
+use core_statistics::CoreStats;
 use core_watch::Watch;
 use event_trace::Trace;
 use lsq_core::Lsq;
@@ -36,6 +37,7 @@ pub enum Phase {
 #[derive(Drop)]
 pub struct Core {
     parts: Parts,
+    stats: CoreStats,
     /// How many cycles are over.
     cycle: u64,
     phase: Phase,
@@ -74,12 +76,13 @@ impl Core {
         let parts = core_start::start(alloc, arch, config, hier, predictor)?;
         Ok(Core {
             parts,
+            stats: CoreStats::none(),
             cycle: 0,
             phase: Phase::Running,
         })
     }
 
-    /// Runs one cycle, in which `most` rows commit at most, and shows it to a watch.
+    /// Runs one cycle, in which `most` rows commit at most, counts what it does, and shows it to a watch.
     ///
     /// `Spent` exactly where the `most`-th commit of this call was no exit, `Ended` exactly where an exit committed or the
     /// machine stops.
@@ -101,7 +104,14 @@ impl Core {
         ensures count { CountsSo W.means (W.faults watch.old) (W.faults watch.new) result }
         ensures memory { W.takes_no_memory watch.old → MemorySo W.takes_no_memory W.means watch.new result }
     {
-        let answer = stages(&mut self.parts, trace, self.cycle, most, watch);
+        let answer = stages(
+            &mut self.parts,
+            trace,
+            self.cycle,
+            most,
+            &mut self.stats,
+            watch,
+        );
         self.phase = phase_after(&answer);
         self.cycle += 1;
         answer
@@ -147,6 +157,13 @@ impl Core {
         ensures { result.now ≡ self.now.parts.hier }
     {
         &self.parts.hier
+    }
+
+    /// What was counted so far. A cycle in which the run ended counts; behind a fault the counts say nothing.
+    pub fn stats(&self) -> CoreStats
+        ensures { result ≡ self.now.stats }
+    {
+        self.stats
     }
 
     /// The state after the last dispatched right row.

@@ -19,6 +19,8 @@ use Rattle.core_parts.specs.Stages.{committed_up_to}
 use Rattle.core_watch.specs.Shown.{Shown}
 use Rattle.core_watch.specs.StageItems.{commit_items}
 use Rattle.core_watch.proofs.Ends.{shown_at_commit}
+use Rattle.core_statistics.specs.declared.stats.CoreStats.{CoreStats}
+use Rattle.core_statistics.specs.Standing.{CommitsCounted}
 use Rattle.core_events.specs.Exits.{exit_by}
 use Rattle.watched_commit.specs.Stage.{shown_by, budget, last_row, rows_behind, stage_items, EndsWith}
 use Rattle.watched_commit.proofs.Marks.{has_committed, marked, joint, find_over, last_within, items_over, items_more}
@@ -45,9 +47,9 @@ module _ (g : Given) (c most n : ℕ) (older left : List Row) (r : Row) (rest : 
         (record { before = t.before; last = ap (is_last (setting_of g) (budget g c most) c rest_now) t.turn ∙ (t.last ∙ e) })
 
     -- and any other does
-    pub ends_here : (word : EndWord) (new : Parts) → exit_word (exit_by s.commit) ≡ word → Stands g c false new (committed_up_to g c left (r ∷ rest))
-        → EndsWith g c most (length rest) word new
-    ends_here word new is stands =
+    pub ends_here : (word : EndWord) (new : Parts) (counted counts : CoreStats) → exit_word (exit_by s.commit) ≡ word → Stands g c false new (committed_up_to g c left (r ∷ rest))
+        → CommitsCounted g c (left ++ sweep (commit_row (setting_of g) c) (r ∷ rest)) counted counts → EndsWith g c most (length rest) word new counted counts
+    ends_here word new counted counts is stands stats =
         record {
           last = there.number;
           ends = ap (or_stop (stops_in (setting_of g) c (table (setting_of g) c))) there.number;
@@ -56,6 +58,7 @@ module _ (g : Given) (c most n : ℕ) (older left : List Row) (r : Row) (rest : 
               ∙ (ap exit_word t.code ∙ is));
           items = ap (λ o. commit_items g c (rows_behind g c o)) there.number ∙ sym (shown_at_commit g c (length rest));
           stands = subst (λ l. Stands g c false new (record (table (setting_of g) c) { rows = l })) (sym there.rows) stands;
+          stats = subst (λ l. CommitsCounted g c l counted counts) (sym there.rows) stats;
         }
 
     -- with it all is shown

@@ -23,6 +23,10 @@ use Rattle.core_commit.proofs.Whole.{turn, turns_over}
 use Rattle.core_watch.specs.Shown.{Shown, behind, CutWithin}
 use Rattle.core_watch.specs.ShownLaws.{behind_append, cut_front, cut_back}
 use Rattle.core_watch.specs.StageItems.{commit_items}
+use Rattle.core_statistics.specs.declared.stats.CoreStats.{CoreStats}
+use Rattle.core_statistics.specs.Counted.{with_commit}
+use Rattle.core_statistics.specs.Standing.{CommitsCounted}
+use Rattle.core_statistics.proofs.Standing.{counts_stand}
 use Rattle.watched_commit.specs.declared.stage.Committed.{Committed}
 use Rattle.watched_commit.specs.declared.stage.Committed.TheVariants as stage
 use Rattle.watched_commit.specs.Stage as specs
@@ -34,25 +38,29 @@ use Rattle.watched_commit.proofs.Ending.{goes_on, ends_here, all_shown, begins_s
 
 -- ---- between two turns
 
--- in a run: these rows had their turns, so many of them committed, none of them ended the run, and they were shown
-pub record PartWay {S : Type 0} (took : S → List Shown → S → Type 0) (trace : Trace) (g : Given) (c most n : ℕ) (parts : Parts) (before now : S) : Type 0 where
+-- in a run: these rows had their turns, so many of them committed, none of them ended the run, and they were counted and shown
+pub record PartWay {S : Type 0} (took : S → List Shown → S → Type 0) (trace : Trace) (g : Given) (c most n : ℕ) (parts : Parts) (counted counts : CoreStats) (before now : S) : Type 0 where
   pub younger : List Row
   pub older : List Row
   pub at : Committing g c n younger older parts
   pub none : last_commit (setting_of g) (budget g c most) c (sweep (commit_row (setting_of g) c) older) ≡ None
+  pub stats : CommitsCounted g c (younger ++ sweep (commit_row (setting_of g) c) older) counted counts
   pub taken : (start : S) (h : List Shown) → took start h before → g.trace ≡ trace
       → took start (behind (commit_items g c (sweep (commit_row (setting_of g) c) older)) h) now
 
-pub record Within {S : Type 0} (took : S → List Shown → S → Type 0) (trace : Trace) (c most n : ℕ) (old parts : Parts) (before now : S) : Type 0 where
+pub record Within {S : Type 0} (took : S → List Shown → S → Type 0) (trace : Trace) (c most n : ℕ) (old parts : Parts) (counted counts : CoreStats) (before now : S) : Type 0 where
   pub fits : Fits c n parts
   pub config : parts.config ≡ old.config
-  pub runs : (g : Given) → IsSound g → Stands g c false old (table (setting_of g) c) → PartWay took trace g c most n parts before now
+  pub arch : parts.arch ≡ old.arch
+  pub runs : (g : Given) → IsSound g → Stands g c false old (table (setting_of g) c) → PartWay took trace g c most n parts counted counts before now
 
-pub within_begin : {S : Type 0} (took : S → List Shown → S → Type 0) (trace : Trace) (c most : ℕ) (old : Parts) (before : S) → Fits c 0 old → Within took trace c most 0 old old before before
-within_begin took trace c most old before fits =
+pub within_begin : {S : Type 0} (took : S → List Shown → S → Type 0) (trace : Trace) (c most : ℕ) (old : Parts) (counted : CoreStats) (before : S) → Fits c 0 old
+    → Within took trace c most 0 old old counted counted before before
+within_begin took trace c most old counted before fits =
     record {
       fits = fits;
       config = refl;
+      arch = refl;
       runs = λ g sound st.
           record {
             younger = (table (setting_of g) c).rows;
@@ -64,20 +72,23 @@ within_begin took trace c most old before fits =
               passed = refl;
             };
             none = refl;
+            stats = subst (λ l. CommitsCounted g c l counted counted) (sym (append-nil (table (setting_of g) c).rows)) (λ cycles e. e);
             taken = λ start h t e. t;
           };
     }
 
 -- the row that commits in a turn, with what the turn does
-pub record Found (g : Given) (c most n : ℕ) (older : List Row) (s : Station) (new : Parts) : Type 0 where
+pub record Found (g : Given) (c most n : ℕ) (younger older : List Row) (s : Station) (new : Parts) : Type 0 where
   pub left : List Row
   pub row : Row
   pub rest : List Row
   pub then_at : Committing g c (suc n) left (row ∷ rest) new
   pub turned : Turned g c most n older left row rest s
+  pub stats : (counted counts : CoreStats) → CommitsCounted g c (younger ++ sweep (commit_row (setting_of g) c) older) counted counts
+      → CommitsCounted g c (left ++ sweep (commit_row (setting_of g) c) (row ∷ rest)) counted (with_commit s counts)
 
 find_row : (g : Given) → IsSound g → (c most n : ℕ) (younger older : List Row) (s : Station) (parts new : Parts) → Committing g c n younger older parts
-    → last_commit (setting_of g) (budget g c most) c (sweep (commit_row (setting_of g) c) older) ≡ None → CommitsOne c n parts new (Some s) → Found g c most n older s new
+    → last_commit (setting_of g) (budget g c most) c (sweep (commit_row (setting_of g) c) older) ≡ None → CommitsOne c n parts new (Some s) → Found g c most n younger older s new
 find_row g sound c most n younger older s parts new k none turns =
     let it = turns g sound younger older k in
     record {
@@ -86,10 +97,14 @@ find_row g sound c most n younger older s parts new k none turns =
       rest = it.2 ++ older;
       then_at = it.5;
       turned = row_turned g sound c most n younger older it.0 it.2 it.1 s parts new k none it.4 it.5;
+      stats = λ counted counts e. (counts_stand g c).commit n younger older it.0 it.2 it.1 s counted counts k.rows it.5.rows k.count it.5.count it.4 e;
     }
 
 same_config : (c n : ℕ) (parts new : Parts) (s : Station) → Turns c n parts new (Some s) → new.config ≡ parts.config
 same_config c n parts new s t = ap (λ (p : Parts). p.config) t.1.same
+
+same_arch : (c n : ℕ) (parts new : Parts) (s : Station) → Turns c n parts new (Some s) → new.arch ≡ parts.arch
+same_arch c n parts new s t = ap (λ (p : Parts). p.arch) t.1.same
 
 -- ---- a row that doesn't end the stage
 
@@ -101,23 +116,25 @@ goes None n most e = by_test (n == most) e
     by_test true e = absurd cc
     by_test false e = refl
 
-pub within_next : {S : Type 0} (took : S → List Shown → S → Type 0) (trace : Trace) (c most n : ℕ) (old parts new : Parts) (before now after : S) (s : Station)
-    → Within took trace c most n old parts before now → Fits c (n + 1) new → Turns c n parts new (Some s) → CommitsOne c n parts new (Some s)
+pub within_next : {S : Type 0} (took : S → List Shown → S → Type 0) (trace : Trace) (c most n : ℕ) (old parts new : Parts) (counted counts more : CoreStats) (before now after : S) (s : Station)
+    → Within took trace c most n old parts counted counts before now → more ≡ with_commit s counts → Fits c (n + 1) new → Turns c n parts new (Some s) → CommitsOne c n parts new (Some s)
     → ((start : S) (h : List Shown) → took start h now → took start (behind (shown_by trace c s.row s.commit) h) after)
     → end_with (exit_by s.commit) (n + 1) most ≡ None
-    → Within took trace c most (n + 1) old new before after
-within_next {S = S} took trace c most n old parts new before now after s w fits turns commits takes goes_so =
+    → Within took trace c most (n + 1) old new counted more before after
+within_next {S = S} took trace c most n old parts new counted counts more before now after s w is fits turns commits takes goes_so =
     record {
       fits = fits;
       config = same_config c n parts new s turns ∙ w.config;
+      arch = same_arch c n parts new s turns ∙ w.arch;
       runs = λ g sound st.
-          let p : PartWay took trace g c most n parts before now = w.runs g sound st in
-          let f : Found g c most n p.older s new = find_row g sound c most n p.younger p.older s parts new p.at p.none commits in
+          let p : PartWay took trace g c most n parts counted counts before now = w.runs g sound st in
+          let f : Found g c most n p.younger p.older s new = find_row g sound c most n p.younger p.older s parts new p.at p.none commits in
           record {
             younger = f.left;
             older = f.row ∷ f.rest;
             at = subst (λ m. Committing g c m f.left (f.row ∷ f.rest) new) one f.then_at;
             none = goes_on g c most n p.older f.left f.row f.rest s f.turned (goes (exit_by s.commit) (suc n) most (ap (λ m. end_with (exit_by s.commit) m most) one ∙ goes_so));
+            stats = subst (λ (o : CoreStats). CommitsCounted g c (f.left ++ sweep (commit_row (setting_of g) c) (f.row ∷ f.rest)) counted o) (sym is) (f.stats counted counts p.stats);
             taken = λ start h t e.
                 subst (λ l. took start l after)
                 (sym (ap (λ l. behind l h) (f.turned.items ∙ ap (λ tr. commit_items g c (sweep (commit_row (setting_of g) c) p.older) ++ shown_by tr c s.row s.commit) e)
@@ -139,38 +156,47 @@ ended None n most end e = by_test (n == most) e
     by_test true e = refl
     by_test false e = absurd cc
 
-module _ {S : Type 0} (took : S → List Shown → S → Type 0) (trace : Trace) (c most n : ℕ) (old parts new : Parts) (before now : S) (s : Station)
-    (w : Within took trace c most n old parts before now) (commits : CommitsOne c n parts new (Some s)) where
-  leaves : (g : Given) (older : List Row) (f : Found g c most n older s new) (end : Committed) (m : Option ℕ) → exit_by s.commit ≡ m
-      → (is_some (exit_by s.commit) || (suc n == most)) ≡ true → end_with m (suc n) most ≡ Some end → specs.Leaves g c most end new
-  leaves g older f end (Some code) e h k =
-      subst (λ x. specs.Leaves g c most x new) (here k) (length f.rest, ends_here g c most n older f.left f.row f.rest s f.turned h (told.Exited code) new (ap exit_word e) f.then_at.stands)
+module _ {S : Type 0} (took : S → List Shown → S → Type 0) (trace : Trace) (c most n : ℕ) (old parts new : Parts) (counted counts : CoreStats) (before now : S) (s : Station)
+    (w : Within took trace c most n old parts counted counts before now) (commits : CommitsOne c n parts new (Some s)) where
+  leaves : (g : Given) (younger older : List Row) (f : Found g c most n younger older s new) → CommitsCounted g c (younger ++ sweep (commit_row (setting_of g) c) older) counted counts
+      → (more : CoreStats) → more ≡ with_commit s counts → (end : Committed) (m : Option ℕ) → exit_by s.commit ≡ m
+      → (is_some (exit_by s.commit) || (suc n == most)) ≡ true → end_with m (suc n) most ≡ Some end → specs.Leaves g c most end new counted more
+  leaves g younger older f stats more is end (Some code) e h k =
+      subst (λ x. specs.Leaves g c most x new counted more) (here k) (
+        length f.rest,
+        ends_here g c most n older f.left f.row f.rest s f.turned h (told.Exited code) new counted more (ap exit_word e) f.then_at.stands
+            (subst (λ (o : CoreStats). CommitsCounted g c (f.left ++ sweep (commit_row (setting_of g) c) (f.row ∷ f.rest)) counted o) (sym is) (f.stats counted counts stats)),
+      )
     where
       here : Some (stage.Exited code) ≡ Some end → stage.Exited code ≡ end
       here k = cc
-  leaves g older f end None e h k =
-      subst (λ x. specs.Leaves g c most x new) (by_test (suc n == most) k) (length f.rest, ends_here g c most n older f.left f.row f.rest s f.turned h told.Budget new (ap exit_word e) f.then_at.stands)
+  leaves g younger older f stats more is end None e h k =
+      subst (λ x. specs.Leaves g c most x new counted more) (by_test (suc n == most) k) (
+        length f.rest,
+        ends_here g c most n older f.left f.row f.rest s f.turned h told.Budget new counted more (ap exit_word e) f.then_at.stands
+            (subst (λ (o : CoreStats). CommitsCounted g c (f.left ++ sweep (commit_row (setting_of g) c) (f.row ∷ f.rest)) counted o) (sym is) (f.stats counted counts stats)),
+      )
     where
       by_test : (b : Bool) → cond b (Some stage.Spent) None ≡ Some end → stage.Spent ≡ end
       by_test true k = cc
       by_test false k = absurd cc
 
-  pub ends_rows : (end : Committed) → end_with (exit_by s.commit) (n + 1) most ≡ Some end
-      → (g : Given) → IsSound g → Stands g c false old (table (setting_of g) c) → specs.Leaves g c most end new
-  ends_rows end e g sound st =
-      let p : PartWay took trace g c most n parts before now = w.runs g sound st in
-      let f : Found g c most n p.older s new = find_row g sound c most n p.younger p.older s parts new p.at p.none commits in
+  pub ends_rows : (more : CoreStats) → more ≡ with_commit s counts → Turns c n parts new (Some s) → (end : Committed) → end_with (exit_by s.commit) (n + 1) most ≡ Some end
+      → (g : Given) → IsSound g → Stands g c false old (table (setting_of g) c) → specs.Leaves g c most end new counted more × (new.arch ≡ old.arch)
+  ends_rows more is turns end e g sound st =
+      let p : PartWay took trace g c most n parts counted counts before now = w.runs g sound st in
+      let f : Found g c most n p.younger p.older s new = find_row g sound c most n p.younger p.older s parts new p.at p.none commits in
       let one : suc n ≡ n + 1 = omega arith in
       let k : end_with (exit_by s.commit) (suc n) most ≡ Some end = ap (λ m. end_with (exit_by s.commit) m most) one ∙ e in
-      leaves g p.older f end (exit_by s.commit) refl (ended (exit_by s.commit) (suc n) most end k) k
+      (leaves g p.younger p.older f p.stats more is end (exit_by s.commit) refl (ended (exit_by s.commit) (suc n) most end k) k, same_arch c n parts new s turns ∙ w.arch)
 
   pub ends_shown : (after : S) (end : Committed) → end_with (exit_by s.commit) (n + 1) most ≡ Some end
       → ((start : S) (h : List Shown) → took start h now → took start (behind (shown_by trace c s.row s.commit) h) after)
       → (start : S) (h : List Shown) → took start h before → (g : Given) → IsSound g → g.trace ≡ trace → Stands g c false old (table (setting_of g) c)
       → took start (behind (stage_items g c most) h) after
   ends_shown after end e takes start h t g sound same st =
-      let p : PartWay took trace g c most n parts before now = w.runs g sound st in
-      let f : Found g c most n p.older s new = find_row g sound c most n p.younger p.older s parts new p.at p.none commits in
+      let p : PartWay took trace g c most n parts counted counts before now = w.runs g sound st in
+      let f : Found g c most n p.younger p.older s new = find_row g sound c most n p.younger p.older s parts new p.at p.none commits in
       let one : suc n ≡ n + 1 = omega arith in
       let k : end_with (exit_by s.commit) (suc n) most ≡ Some end = ap (λ m. end_with (exit_by s.commit) m most) one ∙ e in
       subst (λ l. took start l after)
@@ -186,8 +212,8 @@ module _ {S : Type 0} (took : S → List Shown → S → Type 0) (trace : Trace)
       → (start : S) (h : List Shown) → took start h before → (g : Given) → IsSound g → g.trace ≡ trace → Stands g c false old (table (setting_of g) c)
       → CutWithin cut start h (stage_items g c most) after
   cut_shown cut after cuts start h t g sound same st =
-      let p : PartWay took trace g c most n parts before now = w.runs g sound st in
-      let f : Found g c most n p.older s new = find_row g sound c most n p.younger p.older s parts new p.at p.none commits in
+      let p : PartWay took trace g c most n parts counted counts before now = w.runs g sound st in
+      let f : Found g c most n p.younger p.older s new = find_row g sound c most n p.younger p.older s parts new p.at p.none commits in
       let done : List Shown = commit_items g c (sweep (commit_row (setting_of g) c) p.older) in
       let all : (more : List Shown) × (stage_items g c most ≡ (done ++ shown_by g.trace c s.row s.commit) ++ more) = begins_so g c most n p.older f.left f.row f.rest s f.turned in
       subst (λ l. CutWithin cut start h l after) (sym (all.1 ∙ ap (λ tr. (done ++ shown_by tr c s.row s.commit) ++ all.0) same))
@@ -196,10 +222,10 @@ module _ {S : Type 0} (took : S → List Shown → S → Type 0) (trace : Trace)
 
 -- ---- no row commits any more
 
-module _ {S : Type 0} (took : S → List Shown → S → Type 0) (trace : Trace) (c most n : ℕ) (old parts : Parts) (before now : S)
-    (w : Within took trace c most n old parts before now) (over : leaving c n parts ≡ None) where
+module _ {S : Type 0} (took : S → List Shown → S → Type 0) (trace : Trace) (c most n : ℕ) (old parts : Parts) (counted counts : CoreStats) (before now : S)
+    (w : Within took trace c most n old parts counted counts before now) (over : leaving c n parts ≡ None) where
   module _ (g : Given) (sound : IsSound g) (st : Stands g c false old (table (setting_of g) c)) where
-    way : PartWay took trace g c most n parts before now
+    way : PartWay took trace g c most n parts counted counts before now
     way = w.runs g sound st
 
     rows_over : (after_commit (setting_of g) c).rows ≡ way.younger ++ sweep (commit_row (setting_of g) c) way.older
@@ -213,8 +239,8 @@ module _ {S : Type 0} (took : S → List Shown → S → Type 0) (trace : Trace)
         ap (last_commit (setting_of g) (budget g c most) c) rows_over
         ∙ (last_over (setting_of g) (budget g c most) c way.younger (sweep (commit_row (setting_of g) c) way.older) quiet ∙ way.none)
 
-    counted : count_by (λ o. is_at c o.committed) (after_commit (setting_of g) c).rows ≡ n
-    counted =
+    so_many : count_by (λ o. is_at c o.committed) (after_commit (setting_of g) c).rows ≡ n
+    so_many =
         omega (
           arith,
           ap (count_by (λ o. is_at c o.committed)) rows_over,
@@ -223,12 +249,13 @@ module _ {S : Type 0} (took : S → List Shown → S → Type 0) (trace : Trace)
           way.at.count,
         )
 
-    pub whole : IsWhole g c most n parts
+    pub whole : IsWhole g c most n parts counted counts
     whole =
         record {
           none = none_last;
           stands = turn g sound c n parts parts None w.fits (over, refl) way.younger way.older way.at;
-          count = counted;
+          count = so_many;
+          stats = subst (λ l. CommitsCounted g c l counted counts) (sym rows_over) way.stats;
         }
 
     pub whole_shown : g.trace ≡ trace → (start : S) (h : List Shown) → took start h before → took start (behind (stage_items g c most) h) now
@@ -266,7 +293,7 @@ fits_more c n m parts le fits =
     }
 
 -- behind the last turn
-pub used_up : {S : Type 0} (took : S → List Shown → S → Type 0) (trace : Trace) (c most n : ℕ) (old parts : Parts) (before now : S)
-    → Within took trace c most n old parts before now → n ≡ old.config.commit → leaving c n parts ≡ None
-used_up took trace c most n old parts before now w e =
+pub used_up : {S : Type 0} (took : S → List Shown → S → Type 0) (trace : Trace) (c most n : ℕ) (old parts : Parts) (counted counts : CoreStats) (before now : S)
+    → Within took trace c most n old parts counted counts before now → n ≡ old.config.commit → leaving c n parts ≡ None
+used_up took trace c most n old parts counted counts before now w e =
     subst (λ m. leaving c m parts ≡ None) (ap (λ (o : OooConfig). o.commit) w.config ∙ sym e) (none_left c parts)

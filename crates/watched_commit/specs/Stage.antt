@@ -19,6 +19,8 @@ use Rattle.core_parts.specs.Stands.{Stands}
 use Rattle.core_watch.specs.Shown.{Shown, TakesAll, commit_of}
 use Rattle.core_watch.specs.Items.{items_in}
 use Rattle.core_watch.specs.StageItems.{commit_items}
+use Rattle.core_statistics.specs.declared.stats.CoreStats.{CoreStats}
+use Rattle.core_statistics.specs.Standing.{CommitsCounted}
 use Rattle.watched_commit.specs.declared.stage.Committed.{Committed}
 use Rattle.watched_commit.specs.declared.stage.Committed.TheVariants as stage
 
@@ -54,29 +56,34 @@ module _ (g : Given) (c most : ℕ) where
   abbrev pub stage_items : List Shown
   stage_items = commit_items g c (rows_behind g c last_row)
 
-  -- the stage is whole, and so many rows committed in it
-  pub record IsWhole (n : ℕ) (new : Parts) : Type 0 where
+  -- the stage is whole, and so many rows committed in it, which were counted
+  pub record IsWhole (n : ℕ) (new : Parts) (counted counts : CoreStats) : Type 0 where
     pub none : last_row ≡ None
     pub stands : Stands g c false new (after_commit (setting_of g) c)
     pub count : count_by (λ r. is_at c r.committed) (after_commit (setting_of g) c).rows ≡ n
+    pub stats : CommitsCounted g c (after_commit (setting_of g) c).rows counted counts
 
-  -- the run ends with the commit of this row, and its end is told so; nothing else is shown of the cycle
-  pub record EndsWith (row : ℕ) (word : EndWord) (new : Parts) : Type 0 where
+  -- The run ends with the commit of this row, and its end is told so. Nothing else of the cycle is shown, and only the commits up
+  -- to it are counted.
+  pub record EndsWith (row : ℕ) (word : EndWord) (new : Parts) (counted counts : CoreStats) : Type 0 where
     pub last : last_row ≡ Some row
     pub ends : end_in (setting_of g) budget c ≡ Some (AtCommit row)
     pub told : end_word g (AtCommit row) c ≡ word
     pub items : stage_items ≡ items_in g (AtCommit row) c c
     pub stands : Stands g c false new (record (table (setting_of g) c) { rows = rows_at (setting_of g) (AtCommit row) c })
+    pub stats : CommitsCounted g c (rows_at (setting_of g) (AtCommit row) c) counted counts
 
-  abbrev pub Leaves : Committed → Parts → Type 0
-  Leaves (stage.All n) new = IsWhole n new
-  Leaves stage.Spent new = (row : ℕ) × EndsWith row told.Budget new
-  Leaves (stage.Exited code) new = (row : ℕ) × EndsWith row (told.Exited code) new
+  abbrev pub Leaves : Committed → Parts → CoreStats → CoreStats → Type 0
+  Leaves (stage.All n) new counted counts = IsWhole n new counted counts
+  Leaves stage.Spent new counted counts = (row : ℕ) × EndsWith row told.Budget new counted counts
+  Leaves (stage.Exited code) new counted counts = (row : ℕ) × EndsWith row (told.Exited code) new counted counts
 
--- what the stage leaves of the parts, over every run whose table they stood for
-abbrev pub CommitsRows : {F : Type 0} → ℕ → ℕ → Parts → Parts → Result Committed F → Type 0
-CommitsRows c most old new (Ok answer) = (g : Given) → IsSound g → Stands g c false old (table (setting_of g) c) → Leaves g c most answer new
-CommitsRows c most old new (Err f) = Unit {0}
+-- What the stage leaves of the parts, over every run whose table they stood for, and what its counts become. The state stays.
+-- Behind a fault nothing is said of any.
+abbrev pub CommitsRows : {F : Type 0} → ℕ → ℕ → Parts → Parts → CoreStats → CoreStats → Result Committed F → Type 0
+CommitsRows c most old new counted counts (Ok answer) =
+    (g : Given) → IsSound g → Stands g c false old (table (setting_of g) c) → Leaves g c most answer new counted counts × (new.arch ≡ old.arch)
+CommitsRows c most old new counted counts (Err f) = Unit {0}
 
 -- and what a watch has taken of it, where the run has this trace
 pub record Watched {S F : Type 0} (took cut : S → List Shown → S → Type 0) (faults : S → ℕ × ℕ) (means : F → Meaning) (takes_none : S → Type 0)

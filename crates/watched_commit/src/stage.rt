@@ -5,6 +5,7 @@ ghost use Rattle.watched_commit.specs.Stage.{CommitsRows, Watched};
 
 use crate::row::{end_with, show_row};
 use core_parts::Parts;
+use core_statistics::CoreStats;
 use core_watch::Watch;
 use event_trace::Trace;
 
@@ -19,19 +20,20 @@ pub enum Committed {
     Exited(u32),
 }
 
-/// Lets the rows commit that commit in the cycle, `most` of them at most, and shows each. It ends at the
+/// Lets the rows commit that commit in the cycle, `most` of them at most, counts and shows each. It ends at the
 /// first exit and at the `most`-th commit. After a fault the watch was cut within the row that had committed last.
 pub fn commit_rows<W: Watch>(
     parts: &mut Parts,
     trace: &Trace,
     cycle: u64,
     most: u64,
+    stats: &mut CoreStats,
     watch: &mut W,
 ) -> Result<Committed, W::Fault>
     requires fits { Fits cycle 0 parts.old }
     requires trace { IsRunTrace trace.now }
     ensures fits { Fits cycle 32 parts.new }
-    ensures rows { CommitsRows cycle most parts.old parts.new result }
+    ensures rows { CommitsRows cycle most parts.old parts.new stats.old stats.new result }
     ensures watch { Watched W.took W.cut W.faults W.means W.takes_no_memory trace.now cycle most parts.old watch.old watch.new result }
 {
     let width = parts.config.commit;
@@ -39,6 +41,7 @@ pub fn commit_rows<W: Watch>(
         let Some(station) = core_commit::commit_one(parts, cycle, commits) else {
             return Ok(Committed::All(commits));
         };
+        stats.count_commit(&station);
         if let Err(fault) = show_row(&station, trace, cycle, watch) {
             return Err(fault);
         }

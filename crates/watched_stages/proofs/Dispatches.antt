@@ -1,5 +1,5 @@
 -- The turns of the dispatch stage under a watch.
-use Rattle.std.proofs.Common.{◌≡◌, ℕ, suc, ◌≤◌, Bool, true, false, cond, List, [], ◌∷◌, ◌++◌, Some, refl, sym, ap, ◌∙◌, subst, arith, inl, length, append-nil, append_assoc, eq-eqb}
+use Rattle.std.proofs.Common.{◌≡◌, ℕ, suc, ◌≤◌, Bool, true, false, cond, List, [], ◌∷◌, ◌++◌, Some, refl, sym, ap, ◌∙◌, subst, arith, inl, length, length-append, append-nil, append_assoc, eq-eqb}
 use Rattle.std.specs.Prelude.{◌||◌, count_by}
 use Rattle.std.proofs.lemmas.Bool.{cond_both, and_parts}
 use Rattle.ooo_table.specs.declared.event.Mark.TheVariants as mark
@@ -25,6 +25,10 @@ use Rattle.core_parts.specs.Stages.{Dispatching, DispatchIsOver, DispatchTurn}
 use Rattle.core_parts.proofs.Lists.{count_cons, zip_length, pick_length, length_sweep}
 use Rattle.core_watch.specs.Shown.{Shown, Happened, behind, CutWithin, events}
 use Rattle.core_watch.specs.StageItems.{dispatched_events}
+use Rattle.core_statistics.specs.declared.stats.CoreStats.{CoreStats}
+use Rattle.core_statistics.specs.Counted.{with_dispatches}
+use Rattle.core_statistics.specs.Standing.{DispatchesCounted}
+use Rattle.core_statistics.proofs.Standing.{counts_stand}
 use Rattle.watched_stages.proofs.Showing.{map_append, behind_append, cut_front, cut_back}
 
 -- no row was dispatched in the cycle before its stage
@@ -146,6 +150,16 @@ module _ (g : Given) (c : ℕ) where
       let last = cond (is_now (dispatch_row (setting_of g) c (turned (younger ++ older)) x)) (event_of (length (turned (younger ++ older))) ∷ []) [] in
       (more ++ last, ap (λ es. es ++ last) is ∙ append_assoc (shown_of older) more last)
 
+  -- as many are shown as were dispatched
+  shown_length : (rows : List Row) → length (dispatched_events g c rows) ≡ count_by is_now rows
+  shown_length [] = refl
+  shown_length (r ∷ older) =
+      omega (arith, length-append (dispatched_events g c older) (cond (is_now r) (event_of (length older) ∷ []) []), shown_length older, one_event (is_now r) (event_of (length older)), count_cons is_now r older)
+    where
+      one_event : (b : Bool) (e : Event) → length (cond b (e ∷ []) []) ≡ cond {A = ℕ} b 1 0
+      one_event true e = refl
+      one_event false e = refl
+
   -- ---- the stage so far
 
   module _ {S : Type 0} (took cut : S → List Shown → S → Type 0) where
@@ -216,18 +230,29 @@ module _ (g : Given) (c : ℕ) where
         let (more, whole) = comes_first m.younger m.older in
         (shown_of m.older, more, ap shown_of m.turns.rows ∙ whole, m.shown start h t)
 
-    -- the stage is over where the parts stand for the table behind it as they are
-    pub midway_over : (n : ℕ) (called stopped : Bool) (parts : Parts) (before now : S) → Midway n called parts before now → DispatchIsOver g c stopped parts
-        → (start : S) (h : List Shown) → took start h before → took start (behind (events (dispatched_events g c (after_dispatch (setting_of g) c).rows)) h) now
-    midway_over n called stopped parts before now m over start h t =
-        subst (λ es. took start (behind (events es) h) now) (sym (ap shown_of m.turns.rows ∙ none)) (m.shown start h t)
+    -- The stage is over where the parts stand for the table behind it as they are: no further row is dispatched.
+    none_left : (n : ℕ) (called stopped : Bool) (parts : Parts) (before now : S) (m : Midway n called parts before now) → DispatchIsOver g c stopped parts
+        → dispatched_events g c (after_dispatch (setting_of g) c).rows ≡ shown_of m.older
+    none_left n called stopped parts before now m over =
+        ap shown_of m.turns.rows
+        ∙ left_none m.younger m.older (subst (λ l. Each (λ _ o. is_at c o.dispatched ≡ false) l) m.turns.rows (fresh_three (setting_of g) c))
+        (omega (arith, as_before ∙ ap (λ l. count_by waiting (turned l)) m.turns.rows))
       where
         as_before : count_by waiting (m.younger ++ turned m.older) ≡ count_by waiting (turned (after_issue (setting_of g) c).rows)
         as_before =
             sym (zip_length (Waits g) parts.front.rows (pick waiting (m.younger ++ turned m.older)) m.turns.stands.rows.front ∙ pick_length waiting (m.younger ++ turned m.older))
             ∙ (zip_length (Waits g) parts.front.rows (pick waiting (after_dispatch (setting_of g) c).rows) over.stands.rows.front ∙ pick_length waiting (after_dispatch (setting_of g) c).rows)
 
-        none : shown_of (m.younger ++ m.older) ≡ shown_of m.older
-        none =
-            left_none m.younger m.older (subst (λ l. Each (λ _ o. is_at c o.dispatched ≡ false) l) m.turns.rows (fresh_three (setting_of g) c))
-            (omega (arith, as_before ∙ ap (λ l. count_by waiting (turned l)) m.turns.rows))
+    pub midway_over : (n : ℕ) (called stopped : Bool) (parts : Parts) (before now : S) → Midway n called parts before now → DispatchIsOver g c stopped parts
+        → (start : S) (h : List Shown) → took start h before → took start (behind (events (dispatched_events g c (after_dispatch (setting_of g) c).rows)) h) now
+    midway_over n called stopped parts before now m over start h t =
+        subst (λ es. took start (behind (events es) h) now) (sym (none_left n called stopped parts before now m over)) (m.shown start h t)
+
+    -- and so many are counted
+    pub midway_counted : (n : ℕ) (called stopped : Bool) (parts : Parts) (counted counts : CoreStats) (before now : S) → Midway n called parts before now → DispatchIsOver g c stopped parts
+        → counts ≡ with_dispatches n counted → DispatchesCounted g c counted counts
+    midway_counted n called stopped parts counted counts before now m over is =
+        let so_many : count_by is_now (after_dispatch (setting_of g) c).rows ≡ n =
+        sym (shown_length (after_dispatch (setting_of g) c).rows)
+        ∙ (ap length (none_left n called stopped parts before now m over) ∙ (shown_length (turned m.older) ∙ m.turns.count)) in
+        subst (DispatchesCounted g c counted) (sym is) ((counts_stand g c).dispatches n counted so_many)

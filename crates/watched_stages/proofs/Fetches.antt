@@ -14,6 +14,10 @@ use Rattle.core_parts.specs.declared.parts.Parts.{Parts}
 use Rattle.core_parts.specs.Rows.{pick, Waits}
 use Rattle.core_parts.specs.Stages.{Fetches}
 use Rattle.core_watch.specs.Shown.{Shown}
+use Rattle.core_statistics.specs.declared.stats.CoreStats.{CoreStats}
+use Rattle.core_statistics.specs.Counted.{with_fetches}
+use Rattle.core_statistics.specs.Standing.{FetchesCounted}
+use Rattle.core_statistics.proofs.Standing.{counts_stand}
 use Rattle.core_watch.specs.StageItems.{fetched_events}
 use Rattle.watched_stages.specs.Watched.{Shows, WatchedFetch, fetch_event}
 use Rattle.watched_stages.proofs.Showing.{map_append}
@@ -55,11 +59,14 @@ module _ (g : Given) (c : ℕ) where
       twice : (xs : List FetchRow) → reverse (reverse xs) ≡ xs
       twice xs = reverse-reverse xs
 
-pub watched_fetch : {S T F : Type 0} (took cut : S → List Shown → S → Type 0) (c : ℕ) (old new : Parts) (answer : List FetchRow) (before now : S) (result : Result T F)
-    → Fetches c old new answer → Shows took cut (map (fetch_event c) answer) before now result → WatchedFetch took cut c old new before now result
-watched_fetch took cut c old new answer before now result fetches shows g sound st =
-    let so = fetches g sound st in
-    record {
-      stands = so.stands;
-      shown = subst (λ (es : List Event). Shows took cut es before now result) (events_fetched g c (table (setting_of g) (suc c)).rows answer so.fetched) shows;
-    }
+pub watched_fetch : {S T F : Type 0} (took cut : S → List Shown → S → Type 0) (c : ℕ) (old new : Parts) (answer : List FetchRow) (counted counts : CoreStats) (before now : S) (result : Result T F)
+    → Fetches c old new answer → counts ≡ with_fetches (length answer) counted → Shows took cut (map (fetch_event c) answer) before now result
+    → WatchedFetch took cut c old new counted counts before now result
+watched_fetch took cut c old new answer counted counts before now result fetches is shows g sound st =
+    let so = fetches g sound st in (
+      record {
+        stands = so.stands;
+        shown = subst (λ (es : List Event). Shows took cut es before now result) (events_fetched g c (table (setting_of g) (suc c)).rows answer so.fetched) shows;
+      },
+      subst (FetchesCounted g c counted) (sym is) ((counts_stand g c).fetches answer counted so.fetched),
+    )

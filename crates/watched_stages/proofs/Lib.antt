@@ -7,3 +7,4 @@ mod Squashes
 mod Recoveries
 mod Dispatches
 mod Turns
+mod Wanting

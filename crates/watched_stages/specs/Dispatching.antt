@@ -4,10 +4,12 @@ use Rattle.event_trace.specs.declared.trace.Trace.{Trace}
 use Rattle.sim_safe.specs.declared.observer.Meaning.{Meaning}
 use Rattle.sim_safe.specs.declared.observer.Meaning.TheVariants as meaning
 use Rattle.sim_safe.specs.Observed.{Faulted}
-use Rattle.sim_safe.specs.State.{state_of}
-use Rattle.sim_safe.specs.Step.{Halt, step_of}
+use Rattle.sim_safe.specs.State.{Storage, state_of}
+use Rattle.sim_safe.specs.Step.{Halt, TakesNoMemory, step_of}
 use Rattle.ooo_table.specs.declared.event.Event.{Event}
+use Rattle.ooo_table.specs.Row.{is_at}
 use Rattle.ooo_table.specs.Cycle.{after_issue, after_dispatch}
+use Rattle.ooo_table.specs.Later.{Each}
 use Rattle.ooo_table.specs.Machine.{Given, setting_of}
 use Rattle.ooo_table.specs.MachineLaws.{IsSound}
 use Rattle.core_parts.specs.declared.parts.Parts.{Parts}
@@ -15,6 +17,8 @@ use Rattle.core_parts.specs.Stands.{Stands}
 use Rattle.core_parts.specs.Stages.{DispatchIsOver}
 use Rattle.core_watch.specs.Shown.{Shown, behind, CutWithin, events}
 use Rattle.core_watch.specs.StageItems.{dispatched_events}
+use Rattle.core_statistics.specs.declared.stats.CoreStats.{CoreStats}
+use Rattle.core_statistics.specs.Standing.{DispatchesCounted}
 use Rattle.watched_stages.specs.declared.dispatching.DispatchEnd.{DispatchEnd}
 use Rattle.watched_stages.specs.declared.dispatching.DispatchEnd.TheVariants as ending
 
@@ -22,10 +26,16 @@ use Rattle.watched_stages.specs.declared.dispatching.DispatchEnd.TheVariants as 
 abbrev pub dispatches_of : Given → ℕ → List Event
 dispatches_of g c = dispatched_events g c (after_dispatch (setting_of g) c).rows
 
+-- all that right rows which are dispatched in cycle c write lies in pages that this state has reserved
+abbrev pub HasMemory : Given → ℕ → Storage → Type 0
+HasMemory g c m =
+    Each (λ _ r. is_at c r.dispatched ≡ true → r.fetched.right ≡ true → TakesNoMemory g.trace m.pages (step_of g.trace r.fetched.state)) (after_dispatch (setting_of g) c).rows
+
 module _ {S : Type 0} (took : S → List Shown → S → Type 0) where
-  -- the stage is over, in which the machine stops or doesn't, and the watch has taken its dispatches
-  pub record DispatchShown (g : Given) (c : ℕ) (stopped : Bool) (new : Parts) (before now : S) : Type 0 where
+  -- the stage is over, in which the machine stops or doesn't, its dispatches are counted, and the watch has taken them
+  pub record DispatchShown (g : Given) (c : ℕ) (stopped : Bool) (new : Parts) (counted counts : CoreStats) (before now : S) : Type 0 where
     pub over : DispatchIsOver g c stopped new
+    pub stats : DispatchesCounted g c counted counts
     pub shown : (start : S) (h : List Shown) → took start h before → took start (behind (events (dispatches_of g c)) h) now
 
   -- the watch has taken the first of these events, and no other was shown
@@ -34,16 +44,19 @@ module _ {S : Type 0} (took : S → List Shown → S → Type 0) where
       (start : S) (h : List Shown) → took start h before → (front : List Event) × (more : List Event) × (es ≡ front ++ more) × took start (behind (events front) h) now
 
 module _ {S F : Type 0} (took cut : S → List Shown → S → Type 0) where
-  abbrev pub DispatchEnds : Given → ℕ → Parts → S → S → DispatchEnd F → Type 0
-  DispatchEnds g c new before now ending.Over = DispatchShown took g c false new before now
-  DispatchEnds g c new before now (ending.Stops why) = DispatchShown took g c true new before now × (step_of g.trace (state_of new.arch) ≡ Halt why)
-  DispatchEnds g c new before now ending.OutOfMemory = TakesFront took (dispatches_of g c) before now
-  DispatchEnds g c new before now (ending.Watch f) = (start : S) (h : List Shown) → took start h before → CutWithin cut start h (events (dispatches_of g c)) now
+  -- Nothing is said of the counts of a stage that was cut short. Memory is wanted only where a right row of the stage writes to
+  -- a page that wasn't reserved before it.
+  abbrev pub DispatchEnds : Given → ℕ → Storage → Parts → CoreStats → CoreStats → S → S → DispatchEnd F → Type 0
+  DispatchEnds g c m new counted counts before now ending.Over = DispatchShown took g c false new counted counts before now
+  DispatchEnds g c m new counted counts before now (ending.Stops why) =
+      DispatchShown took g c true new counted counts before now × (step_of g.trace (state_of new.arch) ≡ Halt why)
+  DispatchEnds g c m new counted counts before now ending.OutOfMemory = TakesFront took (dispatches_of g c) before now × (HasMemory g c m → ⊥)
+  DispatchEnds g c m new counted counts before now (ending.Watch f) = (start : S) (h : List Shown) → took start h before → CutWithin cut start h (events (dispatches_of g c)) now
 
   -- dispatch, over the trace of the run: shown are the dispatches
-  abbrev pub WatchedDispatch : Trace → ℕ → Parts → Parts → S → S → DispatchEnd F → Type 0
-  WatchedDispatch trace c old new before now answer =
-      (g : Given) → IsSound g → g.trace ≡ trace → Stands g c true old (after_issue (setting_of g) c) → DispatchEnds g c new before now answer
+  abbrev pub WatchedDispatch : Trace → ℕ → Parts → Parts → CoreStats → CoreStats → S → S → DispatchEnd F → Type 0
+  WatchedDispatch trace c old new counted counts before now answer =
+      (g : Given) → IsSound g → g.trace ≡ trace → Stands g c true old (after_issue (setting_of g) c) → DispatchEnds g c old.arch new counted counts before now answer
 
 -- ---- the watch
 

@@ -1,6 +1,6 @@
--- What a stage of a cycle owes under a watch: the parts stand for the table behind the stage, and the watch was shown what
--- the stage did to each row of that table.
-use Rattle.std.specs.Prelude.{ℕ, suc, ◌+◌, ◌-◌, Bool, true, false, List, [], ◌∷◌, ◌++◌, map, Option, Some, None, Result, ◌&&◌, if◌then◌else◌}
+-- What a stage of a cycle owes under a watch: the parts stand for the table behind the stage, the counts have become those of
+-- that table, and the watch was shown what the stage did to each row of it.
+use Rattle.std.specs.Prelude.{◌≡◌, ℕ, suc, ◌+◌, ◌-◌, Bool, true, false, List, [], ◌∷◌, ◌++◌, map, Option, Some, None, Result, ◌&&◌, if◌then◌else◌}
 use Rattle.ruu_core.specs.Window as unit
 use Rattle.ruu_core.specs.Window.{is_at, is_above, completes}
 use Rattle.ooo_front.specs.declared.row.FetchRow.{FetchRow}
@@ -16,6 +16,8 @@ use Rattle.core_parts.specs.declared.answers.Issued.TheVariants as issued
 use Rattle.core_parts.specs.declared.parts.Parts.{Parts}
 use Rattle.core_parts.specs.Stands.{Stands}
 use Rattle.core_watch.specs.Shown.{Shown, TakesAll, events}
+use Rattle.core_statistics.specs.declared.stats.CoreStats.{CoreStats}
+use Rattle.core_statistics.specs.Standing.{RecoveryCounted, IssuesCounted, FetchesCounted}
 use Rattle.core_watch.specs.StageItems.{written_events, squashed_events, issued_events, fetched_events}
 
 -- ---- the events of what stages do
@@ -40,7 +42,8 @@ issue_event c (issued.Access row forwarded) = record { cycle = c; row = row; mar
 abbrev pub fetch_event : ℕ → FetchRow → Event
 fetch_event c w = record { cycle = c; row = w.row; mark = mark.Fetched w.pc w.next w.queued }
 
--- ---- stages
+-- ---- stages: what is done and counted is the same whatever the watch answered
+-- (the state and its pages change in the dispatch stage alone)
 
 module _ {S T F : Type 0} (took cut : S → List Shown → S → Type 0) where
   -- whatever a watch had taken before, it takes these events behind it, or is cut within one of them
@@ -53,20 +56,23 @@ module _ {S T F : Type 0} (took cut : S → List Shown → S → Type 0) where
     pub shown : Shows es before now result
 
   -- recovery: shown are the write-backs and returns, and then the squashes
-  abbrev pub WatchedRecovery : ℕ → Parts → Parts → S → S → Result T F → Type 0
-  WatchedRecovery c old new before now result =
+  abbrev pub WatchedRecovery : ℕ → Parts → Parts → CoreStats → CoreStats → S → S → Result T F → Type 0
+  WatchedRecovery c old new counted counts before now result =
       (g : Given) → IsSound g → Stands g c false old (after_commit (setting_of g) c)
       → StageShown g c true new (after_recover (setting_of g) c)
       (written_events g c (after_commit (setting_of g) c).rows ++ squashed_events g c (after_recover (setting_of g) c).rows) before now result
+      × RecoveryCounted g c counted counts × (new.arch ≡ old.arch)
 
   -- issue: shown are the issues of both kinds
-  abbrev pub WatchedIssue : ℕ → Parts → Parts → S → S → Result T F → Type 0
-  WatchedIssue c old new before now result =
+  abbrev pub WatchedIssue : ℕ → Parts → Parts → CoreStats → CoreStats → S → S → Result T F → Type 0
+  WatchedIssue c old new counted counts before now result =
       (g : Given) → IsSound g → Stands g c true old (after_recover (setting_of g) c)
       → StageShown g c true new (after_issue (setting_of g) c) (issued_events g c (after_issue (setting_of g) c).rows) before now result
+      × IssuesCounted g c counted counts × (new.arch ≡ old.arch)
 
   -- fetch: shown are the fetches, and the next cycle begins
-  abbrev pub WatchedFetch : ℕ → Parts → Parts → S → S → Result T F → Type 0
-  WatchedFetch c old new before now result =
+  abbrev pub WatchedFetch : ℕ → Parts → Parts → CoreStats → CoreStats → S → S → Result T F → Type 0
+  WatchedFetch c old new counted counts before now result =
       (g : Given) → IsSound g → Stands g c true old (after_dispatch (setting_of g) c)
       → StageShown g (suc c) false new (table (setting_of g) (suc c)) (fetched_events g c (table (setting_of g) (suc c)).rows) before now result
+      × FetchesCounted g c counted counts

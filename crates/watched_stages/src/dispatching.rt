@@ -7,6 +7,7 @@ ghost use Rattle.watched_stages.specs.Dispatching.{WatchedDispatch, DispatchCoun
 
 use core_dispatch::dispatch_one;
 use core_parts::{Dispatched, Parts};
+use core_statistics::CoreStats;
 use core_watch::Watch;
 use event_trace::Trace;
 use ooo_table::{Event, Mark};
@@ -31,19 +32,21 @@ fn either(a: bool, b: bool) -> bool
     a || b
 }
 
-/// Lets rows be dispatched in the cycle, the oldest first, and shows each. The answer says whether the machine
-/// stops, or which fault cut the stage short: behind one no further row is dispatched or shown.
+/// Lets rows be dispatched in the cycle, the oldest first, shows each, and counts them at the end. The answer says whether
+/// the machine stops, or which fault cut the stage short: behind one no further row is dispatched or shown, and none is
+/// counted.
 pub fn dispatch<W: Watch>(
     parts: &mut Parts,
     trace: &Trace,
     cycle: u64,
+    stats: &mut CoreStats,
     watch: &mut W,
 ) -> DispatchEnd<W::Fault>
     requires fits { Fits cycle 64 parts.old }
     requires trace { IsRunTrace trace.now }
     requires text { IsText parts.old.arch.text }
     ensures fits { Fits cycle 64 parts.new }
-    ensures dispatches { WatchedDispatch W.took W.cut trace.now cycle parts.old parts.new watch.old watch.new result }
+    ensures dispatches { WatchedDispatch W.took W.cut trace.now cycle parts.old parts.new stats.old stats.new watch.old watch.new result }
     ensures count { DispatchCounts W.means (W.faults watch.old) (W.faults watch.new) result }
     ensures memory { W.takes_no_memory watch.old → DispatchMemory W.takes_no_memory W.means watch.new result }
 {
@@ -65,8 +68,14 @@ pub fn dispatch<W: Watch>(
                     Err(fault) => return DispatchEnd::Watch(fault),
                 }
             }
-            Dispatched::Over => return DispatchEnd::Over,
-            Dispatched::Stops(cause) => return DispatchEnd::Stops(cause),
+            Dispatched::Over => {
+                stats.count_dispatches(u64::from(dispatched));
+                return DispatchEnd::Over;
+            }
+            Dispatched::Stops(cause) => {
+                stats.count_dispatches(u64::from(dispatched));
+                return DispatchEnd::Stops(cause);
+            }
             Dispatched::OutOfMemory => return DispatchEnd::OutOfMemory,
         }
     }

@@ -5,6 +5,7 @@ ghost use Rattle.core_parts.specs.Fits.{Fits};
 ghost use Rattle.watched_stages.specs.Watched.{Shows, WatchedFetch, fetch_event};
 
 use core_parts::Parts;
+use core_statistics::CoreStats;
 use core_watch::Watch;
 use ooo_front::FetchRow;
 use ooo_table::{Event, Mark};
@@ -39,18 +40,25 @@ fn show_fetched<W: Watch>(rows: &[FetchRow], cycle: u64, watch: &mut W) -> Resul
     Ok(())
 }
 
-/// Fetches what the cycle fetches, shows it, the first row first, and ends the cycle.
+/// Fetches what the cycle fetches, counts and shows it, the first row first, and ends the cycle.
 ///
 /// # Errors
-/// The watch's fault. The cycle has ended by then, and no row behind the one within which it was cut is shown.
-pub fn fetch<W: Watch>(parts: &mut Parts, cycle: u64, watch: &mut W) -> Result<(), W::Fault>
+/// The watch's fault. The cycle has ended and its rows are counted by then, and no row behind the one within which it was cut is shown.
+pub fn fetch<W: Watch>(
+    parts: &mut Parts,
+    cycle: u64,
+    stats: &mut CoreStats,
+    watch: &mut W,
+) -> Result<(), W::Fault>
     requires fits { Fits cycle 64 parts.old }
     requires more { cycle < 10 ^ 13 }
     ensures fits { Fits (cycle + 1) 0 parts.new }
-    ensures fetches { WatchedFetch W.took W.cut cycle parts.old parts.new watch.old watch.new result }
+    ensures fetches { WatchedFetch W.took W.cut cycle parts.old parts.new stats.old stats.new watch.old watch.new result }
     ensures count { SawCounts W.means (W.faults watch.old) (W.faults watch.new) result }
     ensures memory { W.takes_no_memory watch.old → SawWithoutMemory W.takes_no_memory W.means watch.new result }
 {
     let fetched = core_fetch::fetch(parts, cycle);
-    show_fetched(fetched.as_slice(), cycle, watch)
+    let rows = fetched.as_slice();
+    stats.count_fetches(rows.len() as u64);
+    show_fetched(rows, cycle, watch)
 }

@@ -5,6 +5,7 @@ ghost use Rattle.core_parts.specs.Fits.{Fits};
 ghost use Rattle.watched_stages.specs.Watched.{Shows, WatchedIssue, issue_event};
 
 use core_parts::{Issued, Parts};
+use core_statistics::CoreStats;
 use core_watch::Watch;
 use ooo_table::{Event, Mark};
 
@@ -41,17 +42,24 @@ fn show_issued<W: Watch>(issued: &[Issued], cycle: u64, watch: &mut W) -> Result
     Ok(())
 }
 
-/// Has the live rows issue at the cycle, and shows what issued, the oldest row first.
+/// Has the live rows issue at the cycle, counts what issued, and shows it, the oldest row first.
 ///
 /// # Errors
-/// The watch's fault. All issues are done by then, and none behind the one within which it was cut is shown.
-pub fn issue<W: Watch>(parts: &mut Parts, cycle: u64, watch: &mut W) -> Result<(), W::Fault>
+/// The watch's fault. All issues are done and counted by then, and none behind the one within which it was cut is shown.
+pub fn issue<W: Watch>(
+    parts: &mut Parts,
+    cycle: u64,
+    stats: &mut CoreStats,
+    watch: &mut W,
+) -> Result<(), W::Fault>
     requires { Fits cycle 32 parts.old }
     ensures fits { Fits cycle 64 parts.new }
-    ensures issues { WatchedIssue W.took W.cut cycle parts.old parts.new watch.old watch.new result }
+    ensures issues { WatchedIssue W.took W.cut cycle parts.old parts.new stats.old stats.new watch.old watch.new result }
     ensures count { SawCounts W.means (W.faults watch.old) (W.faults watch.new) result }
     ensures memory { W.takes_no_memory watch.old → SawWithoutMemory W.takes_no_memory W.means watch.new result }
 {
     let issued = core_issue::issue(parts, cycle);
-    show_issued(issued.as_slice(), cycle, watch)
+    let rows = issued.as_slice();
+    stats.count_issues(rows);
+    show_issued(rows, cycle, watch)
 }

@@ -6,8 +6,10 @@ ghost use Rattle.ruu_core.specs.Window.{is_above, is_live, written_of};
 ghost use Rattle.core_parts.specs.Fits.{Fits};
 ghost use Rattle.watched_stages.specs.Watched.{Shows, WatchedRecovery, completion_mark, completions_above};
 ghost use Rattle.core_events.specs.Recoveries.{squash_event, squashes_behind};
+ghost use Rattle.core_statistics.specs.StageCounts.{with_recovery_of};
 
 use core_parts::Parts;
+use core_statistics::CoreStats;
 use core_watch::Watch;
 use ooo_table::{Event, Mark};
 use ruu_core::Ruu;
@@ -96,15 +98,30 @@ fn show_squashes<W: Watch>(
     }
 }
 
-/// Shows the write-backs and returns of the cycle, does its recovery, if there is one, and shows which rows
+/// Counts the recovery behind a row, by which all rows up to the next one that is fetched are squashed, if one recovers.
+fn count_recovery(behind: Option<u64>, next: u64, stats: &mut CoreStats)
+    requires { (row : ℕ) → behind ≡ Some row → row < next }
+    ensures { stats.new ≡ with_recovery_of behind next stats.old }
+{
+    if let Some(row) = behind {
+        stats.count_recovery(next - (row + 1));
+    }
+}
+
+/// Shows the write-backs and returns of the cycle, does its recovery, if there is one, counts it, and shows which rows
 /// that squashes, the oldest first.
 ///
 /// # Errors
-/// The watch's fault. The recovery is done by then, and no event behind the one within which it was cut is shown.
-pub fn recover<W: Watch>(parts: &mut Parts, cycle: u64, watch: &mut W) -> Result<(), W::Fault>
+/// The watch's fault. The recovery is done and counted by then, and no event behind the one within which it was cut is shown.
+pub fn recover<W: Watch>(
+    parts: &mut Parts,
+    cycle: u64,
+    stats: &mut CoreStats,
+    watch: &mut W,
+) -> Result<(), W::Fault>
     requires { Fits cycle 32 parts.old }
     ensures fits { Fits cycle 32 parts.new }
-    ensures recovers { WatchedRecovery W.took W.cut cycle parts.old parts.new watch.old watch.new result }
+    ensures recovers { WatchedRecovery W.took W.cut cycle parts.old parts.new stats.old stats.new watch.old watch.new result }
     ensures count { SawCounts W.means (W.faults watch.old) (W.faults watch.new) result }
     ensures memory { W.takes_no_memory watch.old → SawWithoutMemory W.takes_no_memory W.means watch.new result }
 {
@@ -113,10 +130,12 @@ pub fn recover<W: Watch>(parts: &mut Parts, cycle: u64, watch: &mut W) -> Result
     match show_completions(&parts.unit, cycle, watch) {
         Ok(()) => {
             let behind = core_recovery::recover(parts, cycle);
+            count_recovery(behind, next, stats);
             show_squashes(behind, next, cycle, watch)
         }
         Err(fault) => {
-            let _behind = core_recovery::recover(parts, cycle);
+            let behind = core_recovery::recover(parts, cycle);
+            count_recovery(behind, next, stats);
             Err(fault)
         }
     }

@@ -5,6 +5,7 @@ use Rattle.ooo_table.specs.Machine.{Given, setting_of}
 use Rattle.ooo_table.specs.MachineLaws.{IsSound}
 use Rattle.core_parts.specs.Fits.{Fits}
 use Rattle.core_parts.specs.Stands.{Stands}
+use Rattle.core_dispatch.specs.Turn.{Keeps}
 use Rattle.watched_stages.proofs.Dispatches.{Midway}
 use Rattle.watched_stages.proofs.dispatching.dispatch.Given as goal
 
@@ -17,6 +18,8 @@ invariant-rows g l =
     → Midway k l.cycle g.W.Watch.took g.W.Watch.cut l.dispatched l.called l.parts l.fn.watch l.watch)
     × (g.W.Watch.faults l.watch ≡ g.W.Watch.faults l.fn.watch)
     × (g.W.Watch.takes_no_memory l.fn.watch → g.W.Watch.takes_no_memory l.watch)
+    × (l.stats ≡ l.fn.stats)
+    × Keeps l.fn.parts.arch l.parts.arch
 
 abbrev pub decreases-rows : goal.decreases-rows
 decreases-rows g l = 32 - l.dispatched
