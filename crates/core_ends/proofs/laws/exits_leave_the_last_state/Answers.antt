@@ -1,0 +1,5 @@
+use Rattle.core_ends.proofs.Ends.{over_at_exit}
+use Rattle.core_ends.proofs.laws.exits_leave_the_last_state.Goals as goal
+
+pub returns : goal.returns
+returns c = over_at_exit
