@@ -1,6 +1,8 @@
 //! The worked tables: what each row of a short program shows, cycle by cycle. They come from the specification of
 //! the machine's timing, and from no program.
 
+use core_statistics::CoreStats;
+
 /// A row: its address from the start of the text on, and the cycles of its marks F, Q, D, I, W, MI, MW, C and X. A mark
 /// that doesn't come is 0.
 pub type Line = [u64; 10];
@@ -190,3 +192,89 @@ pub const LOADS_IN_FLIGHT: [Line; 10] = [
     [0x40, 2, 2, 0, 0, 0, 0, 0, 0, 0],
     [0x48, 30, 30, 0, 0, 0, 0, 0, 0, 0],
 ];
+
+/// Nothing but the exit that each program ends with.
+const EXIT: CoreStats = CoreStats {
+    insn: 1,
+    loads: 0,
+    stores: 0,
+    branches: 0,
+    calls: 1,
+    cycles: 0,
+    fetched: 0,
+    dispatched: 0,
+    squashed: 0,
+    recoveries: 0,
+    forwarded: 0,
+    addr_hits: 0,
+};
+
+/// What is counted of each table. A run ends in the cycle in which its exit commits, and that counts as one.
+pub const FIRST_OBJECT_COUNTS: CoreStats = CoreStats {
+    insn: 3,
+    cycles: 9,
+    fetched: 4,
+    dispatched: 3,
+    ..EXIT
+};
+
+/// The same whether wrong rows issue or not.
+pub const BRANCH_COUNTS: CoreStats = CoreStats {
+    insn: 5,
+    branches: 1,
+    cycles: 15,
+    fetched: 19,
+    dispatched: 11,
+    squashed: 10,
+    recoveries: 1,
+    ..EXIT
+};
+
+pub const TEXT_STORE_COUNTS: CoreStats = CoreStats {
+    insn: 6,
+    branches: 1,
+    cycles: 15,
+    fetched: 20,
+    dispatched: 12,
+    squashed: 10,
+    recoveries: 1,
+    ..EXIT
+};
+
+/// The same in order. The first load gets its value from the store.
+pub const STORE_COUNTS: CoreStats = CoreStats {
+    insn: 8,
+    loads: 2,
+    stores: 1,
+    cycles: 15,
+    fetched: 12,
+    dispatched: 8,
+    forwarded: 1,
+    ..EXIT
+};
+
+pub const DIVISIONS_COUNTS: CoreStats = CoreStats {
+    insn: 7,
+    cycles: 47,
+    fetched: 11,
+    dispatched: 7,
+    ..EXIT
+};
+
+pub const CALL_COUNTS: CoreStats = CoreStats {
+    insn: 4,
+    cycles: 13,
+    fetched: 8,
+    dispatched: 4,
+    ..EXIT
+};
+
+/// The same at once and in flight.
+pub const LOADS_COUNTS: CoreStats = CoreStats {
+    insn: 6,
+    loads: 2,
+    cycles: 34,
+    fetched: 10,
+    dispatched: 6,
+    ..EXIT
+};

@@ -3,17 +3,22 @@ ghost use Rattle.std.specs.Prelude.{◌≡◌, ◌<◌, IfSome};
 ghost use Rattle.sim_safe.specs.Record.{IsRunTrace};
 ghost use Rattle.sim_outorder.specs.Running.{IsReady};
 
+mod budgets;
+
 use crate::tables::{
     self, ACCESSED, COMMITTED, DISPATCHED, FETCHED, ISSUED, Line, PC, QUEUED, RETURNED, SQUASHED,
     WRITTEN,
 };
 use bpred_unit::{PredConfig, PredKind, Predictor};
 use cache_core::CacheConfig;
+use core_statistics::CoreStats;
 use core_watch::Watch;
 use event_trace::Trace;
 use mem_hier::{Hier, HierConfig, Level};
+use ooo_front::Front;
 use ooo_table::{Event, Mark, OooConfig};
 use pisa_step::Cause;
+use ruu_core::Ruu;
 use sim_outorder::{Core, Turn};
 use sim_safe::{Arch, CommitRecord};
 use std::alloc::Global;
@@ -97,7 +102,7 @@ const CALL: &[u8] = b".text 0x00400000\n ADDIU $2,$0,1\n ADDIU $4,$0,0\n MULT $2
 const LOADS: &[u8] =
     b".text 0x00400000\n LW $8,0($29)\n LW $9,4($29)\n ADDU $10,$9,$9\n ADDIU $2,$0,1\n ADDIU $4,$0,0\n SYSCALL\n";
 
-/// A program, the machine that it runs on, and what its rows show.
+/// A program, the machine that it runs on, what its rows show, and what is counted of them.
 #[derive(Clone, Copy)]
 struct Table<'a> {
     source: &'a [u8],
@@ -106,10 +111,11 @@ struct Table<'a> {
     kind: PredKind,
     code: u32,
     lines: &'a [Line],
+    counts: CoreStats,
 }
 
 /// A table on a machine without caches, whose program exits with code 0.
-fn bare<'a>(source: &'a [u8], kind: PredKind, lines: &'a [Line]) -> Table<'a> {
+fn bare<'a>(source: &'a [u8], kind: PredKind, lines: &'a [Line], counts: CoreStats) -> Table<'a> {
     Table {
         source,
         config: MACHINE,
@@ -117,6 +123,7 @@ fn bare<'a>(source: &'a [u8], kind: PredKind, lines: &'a [Line]) -> Table<'a> {
         kind,
         code: 0,
         lines,
+        counts,
     }
 }
 
@@ -237,22 +244,82 @@ fn machine(alloc: Global, table: &Table<'_>) -> Option<Core>
     Core::new(alloc, arch, &table.config, hier, predictor).ok()
 }
 
-/// Runs a machine to its end, and answers the exit code.
-fn exit_of(mut core: Core, trace: &Trace, watch: &mut Compared<'_>) -> Option<u32>
+/// Whether a mark has come behind a cycle.
+fn has_come(at: u64, k: u64) -> bool {
+    at > 0 && at <= k
+}
+
+/// Whether a row has left behind a cycle: it has committed or was squashed.
+fn has_left(line: &Line, k: u64) -> bool {
+    has_come(line[COMMITTED], k) || has_come(line[SQUASHED], k)
+}
+
+/// Whether a row is live behind a cycle.
+fn is_live(line: &Line, k: u64) -> bool {
+    has_come(line[DISPATCHED], k) && !has_left(line, k)
+}
+
+/// Whether a row waits for its dispatch behind a cycle.
+fn is_waiting(line: &Line, k: u64) -> bool {
+    line[FETCHED] <= k && !has_come(line[DISPATCHED], k) && !has_left(line, k)
+}
+
+/// Whether the unit of so many places holds the rows of a table that are live behind a cycle.
+fn unit_holds(unit: &Ruu, places: u64, lines: &[Line], k: u64) -> bool {
+    let live = lines.iter().filter(|line| is_live(line, k)).count() as u64;
+    let unissued = lines
+        .iter()
+        .position(|line| is_live(line, k) && !has_come(line[ISSUED], k));
+    unit.is_empty() == (live == 0)
+        && unit.room() == (live < places)
+        && unit.first_unissued() == unissued.map(|at| at as u64)
+}
+
+/// Whether the front holds the rows of a table that wait behind a cycle, the oldest at its head.
+fn front_holds(front: &Front, lines: &[Line], k: u64) -> bool {
+    let fetched = lines.iter().filter(|line| line[FETCHED] <= k).count() as u64;
+    let oldest = lines.iter().find(|line| is_waiting(line, k));
+    let head = front.head(u64::MAX);
+    let same = match (oldest, head) {
+        (Some(line), Some(row)) => {
+            row.queued == line[QUEUED]
+                && u64::from(row.pc) == u64::from(TEXT).wrapping_add(line[PC])
+        }
+        (None, None) => true,
+        _ => false,
+    };
+    same && front.next_number() == fetched
+}
+
+/// Runs a machine to its end, and answers the exit code and what was counted. None where it ends otherwise, or its
+/// unit or front holds something else behind a cycle than the table says.
+fn exit_of(
+    mut core: Core,
+    places: u64,
+    trace: &Trace,
+    watch: &mut Compared<'_>,
+) -> Option<(u32, CoreStats)>
     requires ready { IsReady core × (core.cycle ≡ 0) }
     requires trace { IsRunTrace trace.now }
 {
+    let lines = watch.lines;
     for k in 0..100u64 {
         match core.cycle(trace, 1000, watch) {
-            Ok(Turn::Going) => {}
-            Ok(Turn::Ended(Cause::Exited { code })) => return Some(code),
+            Ok(Turn::Going) => {
+                let held = unit_holds(core.unit(), places, lines, k)
+                    && front_holds(core.front(), lines, k);
+                if !held {
+                    return None;
+                }
+            }
+            Ok(Turn::Ended(Cause::Exited { code })) => return Some((code, core.stats())),
             _ => return None,
         }
     }
     None
 }
 
-/// Whether a table comes out of the machine, each mark once and no other.
+/// Whether a table comes out of the machine, each mark once and no other, with its counts.
 fn agrees(alloc: Global, table: &Table<'_>) -> bool {
     let Some(core) = machine(alloc, table) else {
         return false;
@@ -264,7 +331,8 @@ fn agrees(alloc: Global, table: &Table<'_>) -> bool {
         wrong: 0,
     };
     let trace = Trace::absent(alloc);
-    let code = exit_of(core, &trace, &mut watch);
+    let places = u64::from(table.config.ruu);
+    let end = exit_of(core, places, &trace, &mut watch);
     let marks = table
         .lines
         .iter()
@@ -274,7 +342,10 @@ fn agrees(alloc: Global, table: &Table<'_>) -> bool {
         .iter()
         .filter(|line| line[COMMITTED] > 0)
         .count() as u64;
-    code == Some(table.code) && watch.wrong == 0 && watch.shown == marks && watch.records == commits
+    end == Some((table.code, table.counts))
+        && watch.wrong == 0
+        && watch.shown == marks
+        && watch.records == commits
 }
 
 /// Whether all tables do.
@@ -296,19 +367,35 @@ fn all_agree(alloc: Global) -> bool {
             kind: PredKind::Bimod,
             code: 7,
             lines: &tables::FIRST_OBJECT,
+            counts: tables::FIRST_OBJECT_COUNTS,
         },
-        bare(BRANCH, PredKind::NotTaken, &tables::BRANCH),
+        bare(
+            BRANCH,
+            PredKind::NotTaken,
+            &tables::BRANCH,
+            tables::BRANCH_COUNTS,
+        ),
         Table {
             config: OooConfig {
                 wrong_issue: false,
                 ..MACHINE
             },
-            ..bare(BRANCH, PredKind::NotTaken, &tables::BRANCH_QUIET)
+            ..bare(
+                BRANCH,
+                PredKind::NotTaken,
+                &tables::BRANCH_QUIET,
+                tables::BRANCH_COUNTS,
+            )
         },
-        bare(TEXT_STORE, PredKind::NotTaken, &tables::TEXT_STORE),
+        bare(
+            TEXT_STORE,
+            PredKind::NotTaken,
+            &tables::TEXT_STORE,
+            tables::TEXT_STORE_COUNTS,
+        ),
         Table {
             hier: SLOW,
-            ..bare(STORE, PredKind::Bimod, &tables::STORE)
+            ..bare(STORE, PredKind::Bimod, &tables::STORE, tables::STORE_COUNTS)
         },
         Table {
             config: OooConfig {
@@ -316,20 +403,40 @@ fn all_agree(alloc: Global) -> bool {
                 ..MACHINE
             },
             hier: SLOW,
-            ..bare(STORE, PredKind::Bimod, &tables::STORE_IN_ORDER)
+            ..bare(
+                STORE,
+                PredKind::Bimod,
+                &tables::STORE_IN_ORDER,
+                tables::STORE_COUNTS,
+            )
         },
-        bare(DIVISIONS, PredKind::Bimod, &tables::DIVISIONS),
+        bare(
+            DIVISIONS,
+            PredKind::Bimod,
+            &tables::DIVISIONS,
+            tables::DIVISIONS_COUNTS,
+        ),
         Table {
             config: OooConfig { ruu: 2, ..MACHINE },
-            ..bare(CALL, PredKind::Bimod, &tables::CALL)
+            ..bare(CALL, PredKind::Bimod, &tables::CALL, tables::CALL_COUNTS)
         },
         Table {
             hier: AT_ONCE,
-            ..bare(LOADS, PredKind::Bimod, &tables::LOADS_AT_ONCE)
+            ..bare(
+                LOADS,
+                PredKind::Bimod,
+                &tables::LOADS_AT_ONCE,
+                tables::LOADS_COUNTS,
+            )
         },
         Table {
             hier: IN_FLIGHT,
-            ..bare(LOADS, PredKind::Bimod, &tables::LOADS_IN_FLIGHT)
+            ..bare(
+                LOADS,
+                PredKind::Bimod,
+                &tables::LOADS_IN_FLIGHT,
+                tables::LOADS_COUNTS,
+            )
         },
     ];
     tables.iter().all(|table| agrees(alloc, table))
