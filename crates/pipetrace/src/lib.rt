@@ -24,6 +24,6 @@ pub use laws::{
     bytes_have_one_first_bad_line, finishes_write_the_text, puts_take_events, texts_have_one_log,
 };
 pub use ooo_table::{EndWord, Event, Events, Log, Mark, OooConfig};
-pub use printing::{event_text, print};
+pub use printing::{event_text, print, push_end_line};
 pub use reading::read;
 pub use watch::TextWatch;

@@ -1,5 +1,5 @@
 -- What is written of one item, and of further ones.
-use Rattle.std.specs.Prelude.{◌≡◌, ◌≤◌, ◌<◌, ◌+◌, ◌++◌, ℕ, Bool, true, false, List, [], ◌∷◌, length, Option, Some, None, if◌then◌else◌}
+use Rattle.std.specs.Prelude.{◌≡◌, ◌≤◌, ◌<◌, ◌+◌, ◌++◌, ℕ, Bool, true, false, List, [], ◌∷◌, length, Option, Some, None, Result, Ok, Err, if◌then◌else◌}
 use Rattle.std.proofs.Common.{refl, sym, ap, ◌∙◌, subst, inl, inr, append_assoc, append-nil, take, drop, get_or}
 use Rattle.std.proofs.lemmas.Bool.{le-ltb}
 use Rattle.std.proofs.lemmas.List.{take_more, take-append-drop}
@@ -13,11 +13,11 @@ use Rattle.sim_safe.specs.declared.observer.Meaning.{Meaning}
 use Rattle.sim_safe.specs.Record.{Item}
 use Rattle.sim_safe.specs.Commit.{line_of, blocks_of, onto}
 use Rattle.sim_safe.specs.Observed.{Faulted}
-use Rattle.sim_watch.specs.Watch.{puts_of, is_short, piece_of, piece_with, left_with, writes_of, written_of, faults_of, meaning_of, CutAtNewest}
+use Rattle.sim_watch.specs.Watch.{puts_of, is_short, piece_of, piece_with, left_with, writes_of, written_of, faults_of, meaning_of, CutAtNewest, WritesLine, WritesLong}
 
 -- ---- blocks
 
-puts_more : (xs ys : List Block) → puts_of (xs ++ ys) ≡ puts_of ys ++ puts_of xs
+pub puts_more : (xs ys : List Block) → puts_of (xs ++ ys) ≡ puts_of ys ++ puts_of xs
 puts_more [] ys = sym (append-nil (puts_of ys))
 puts_more (x ∷ xs) ys = ap (λ h. h ++ Output x.bytes ∷ []) (puts_more xs ys) ∙ append_assoc (puts_of ys) (puts_of xs) (Output x.bytes ∷ [])
 
@@ -57,6 +57,14 @@ piece_written v a b file text bytes long e q = subst (λ l. Wrote v a l b) (sym 
 pub piece_cut : {O : Type 0} (v : View O) (a b : O) (file text bytes : List ℕ) (f : Fault) → 65536 ≤ length text → bytes ≡ text → GaveUp v a (Append file bytes ∷ []) f b → Cut v a (piece_of file text) f b
 piece_cut v a b file text bytes f long e q =
     subst (λ l. Cut v a l f b) (sym (piece_long file text long)) (gave_up_cut v a b (Append file text ∷ []) f (subst (λ x. GaveUp v a (Append file x ∷ []) f b) e q))
+
+-- a line that was added, and what was written then
+line_by : {O T : Type 0} (v : View O) (a b : O) (file was line pending : List ℕ) (r : Result T Fault) → WritesLong v a file (was ++ line) b pending r → WritesLine v a (Some file) was line b pending r
+line_by v a b file was line pending (Ok x) q = q
+line_by v a b file was line pending (Err f) q = q
+
+pub line_by_piece : {O T : Type 0} (v : View O) (a b : O) (file was line text pending : List ℕ) (r : Result T Fault) → text ≡ was ++ line → WritesLong v a file text b pending r → WritesLine v a (Some file) was line b pending r
+line_by_piece v a b file was line text pending r e q = line_by v a b file was line pending r (subst (λ x. WritesLong v a file x b pending r) e q)
 
 -- ---- one item
 

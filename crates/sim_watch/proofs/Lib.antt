@@ -1,7 +1,8 @@
-mod Steps
-mod Countable
-mod Totals
+pub mod Steps
+pub mod Countable
+pub mod Totals
 pub mod Items
 mod Runs
 mod Recordings
 pub mod Texts
+pub mod Skips

@@ -5,7 +5,7 @@ use Rattle.event_trace.specs.declared.trace.Block.{Block}
 use Rattle.sim_safe.specs.Record.{Item}
 use Rattle.sim_safe.specs.Commit.{line_of, blocks_of, onto, block_bytes, output_of as output_of_item, outputs_back, outputs_of, outputs_onto, text_back, text_of, text_onto}
 use Rattle.std.specs.List.{flat_map}
-use Rattle.sim_watch.specs.Watch.{puts_of, is_short, left_of, piece_of, piece_with, writes_of, written_of, last_piece, run_journal}
+use Rattle.sim_watch.specs.Watch.{puts_of, is_short, left_of, piece_of, piece_with, writes_of, written_of, last_piece, run_journal, TextAt}
 use Rattle.journal.specs.Write.{output_of, report_of, Journal, Start, Append, Output}
 use Rattle.journal.specs.Texts.{text_in}
 use Rattle.journal.specs.Fronts.{same_name}
@@ -13,7 +13,7 @@ use Rattle.journal.specs.Laws.{output_more, report_more}
 
 -- ---- the output
 
-puts_output : (blocks : List Block) → output_of (puts_of blocks) ≡ flat_map block_bytes blocks
+pub puts_output : (blocks : List Block) → output_of (puts_of blocks) ≡ flat_map block_bytes blocks
 puts_output [] = refl
 puts_output (b ∷ bs) = output_more (puts_of bs) (Output b.bytes ∷ []) ∙ ap (λ x. b.bytes ++ x) (puts_output bs)
 
@@ -21,11 +21,11 @@ piece_output : (short : Bool) (file text : List ℕ) → output_of (if short the
 piece_output true file text = refl
 piece_output false file text = refl
 
-with_output : (file : Option (List ℕ)) (was line : List ℕ) → output_of (piece_with file was line) ≡ []
+pub with_output : (file : Option (List ℕ)) (was line : List ℕ) → output_of (piece_with file was line) ≡ []
 with_output None was line = refl
 with_output (Some file) was line = piece_output (is_short (was ++ line)) file (was ++ line)
 
-item_output : (file : Option (List ℕ)) (was : List ℕ) (i : Item) → output_of (writes_of file was i) ≡ output_of_item i
+pub item_output : (file : Option (List ℕ)) (was : List ℕ) (i : Item) → output_of (writes_of file was i) ≡ output_of_item i
 item_output file was i =
     output_more (piece_with file was (line_of i)) (puts_of (blocks_of i)) ∙ ap (λ x. output_of (puts_of (blocks_of i)) ++ x) (with_output file was (line_of i)) ∙ append-nil (output_of (puts_of (blocks_of i))) ∙ puts_output (blocks_of i)
 
@@ -39,7 +39,7 @@ written_output file was (i ∷ h) =
 pub written_outputs : (file : Option (List ℕ)) (is : List Item) → output_of (written_of file [] (onto is [])).journal ≡ outputs_of is
 written_outputs file is = written_output file [] (onto is []) ∙ outputs_onto is []
 
-last_output : (file : Option (List ℕ)) (pending : List ℕ) → output_of (last_piece file pending) ≡ []
+pub last_output : (file : Option (List ℕ)) (pending : List ℕ) → output_of (last_piece file pending) ≡ []
 last_output None pending = refl
 last_output (Some file) pending = refl
 
@@ -62,14 +62,14 @@ piece_report : (short : Bool) (file text : List ℕ) → report_of (if short the
 piece_report true file text = refl
 piece_report false file text = refl
 
-with_report : (file : Option (List ℕ)) (was line : List ℕ) → report_of (piece_with file was line) ≡ []
+pub with_report : (file : Option (List ℕ)) (was line : List ℕ) → report_of (piece_with file was line) ≡ []
 with_report None was line = refl
 with_report (Some file) was line = piece_report (is_short (was ++ line)) file (was ++ line)
 
-both_empty : (x y z : List ℕ) → z ≡ x ++ y → x ≡ [] → y ≡ [] → z ≡ []
+pub both_empty : (x y z : List ℕ) → z ≡ x ++ y → x ≡ [] → y ≡ [] → z ≡ []
 both_empty x y z e f g = e ∙ ap (λ l. l ++ y) f ∙ g
 
-item_report : (file : Option (List ℕ)) (was : List ℕ) (i : Item) → report_of (writes_of file was i) ≡ []
+pub item_report : (file : Option (List ℕ)) (was : List ℕ) (i : Item) → report_of (writes_of file was i) ≡ []
 item_report file was i =
     both_empty (report_of (puts_of (blocks_of i))) (report_of (piece_with file was (line_of i))) (report_of (writes_of file was i)) (report_more (piece_with file was (line_of i)) (puts_of (blocks_of i))) (puts_report (blocks_of i)) (with_report file was (line_of i))
 
@@ -80,7 +80,7 @@ written_report file was (i ∷ h) =
     let w = written_of file was h in
     both_empty (report_of w.journal) (report_of (writes_of file w.pending i)) (report_of (writes_of file w.pending i ++ w.journal)) (report_more (writes_of file w.pending i) w.journal) (written_report file was h) (item_report file w.pending i)
 
-last_report : (file : Option (List ℕ)) (pending : List ℕ) → report_of (last_piece file pending) ≡ []
+pub last_report : (file : Option (List ℕ)) (pending : List ℕ) → report_of (last_piece file pending) ≡ []
 last_report None pending = refl
 last_report (Some file) pending = refl
 
@@ -92,21 +92,15 @@ run_report file is =
 
 -- ---- the text
 
--- what was written to a file, and what is pending, is a text
-record TextAt (file : List ℕ) (h : Journal) (pending whole : List ℕ) : Type 0 where
-  text : List ℕ
-  is : text_in h file ≡ Some text
-  all : text ++ pending ≡ whole
-
-named : (file x : List ℕ) (y : Option (List ℕ)) → (if bytes_eq file file then Some x else y) ≡ Some x
+pub named : (file x : List ℕ) (y : Option (List ℕ)) → (if bytes_eq file file then Some x else y) ≡ Some x
 named file x y = ap (λ (b : Bool). if b then Some x else y) (same_name file)
 
-text_puts : (file : List ℕ) (blocks : List Block) (h : Journal) (pending whole : List ℕ) → TextAt file h pending whole → TextAt file (puts_of blocks ++ h) pending whole
+pub text_puts : (file : List ℕ) (blocks : List Block) (h : Journal) (pending whole : List ℕ) → TextAt file h pending whole → TextAt file (puts_of blocks ++ h) pending whole
 text_puts file [] h pending whole q = q
 text_puts file (b ∷ bs) h pending whole q =
     subst (λ l. TextAt file l pending whole) (sym (append_assoc (puts_of bs) (Output b.bytes ∷ []) h)) (text_puts file bs (Output b.bytes ∷ h) pending whole (record { text = q.text; is = q.is; all = q.all }))
 
-text_piece : (short : Bool) (file pending line whole : List ℕ) (h : Journal) → TextAt file h pending whole
+pub text_piece : (short : Bool) (file pending line whole : List ℕ) (h : Journal) → TextAt file h pending whole
     → TextAt file ((if short then [] else Append file (pending ++ line) ∷ []) ++ h) (if short then pending ++ line else []) (whole ++ line)
 text_piece true file pending line whole h q = record { text = q.text; is = q.is; all = sym (append_assoc q.text pending line) ∙ ap (λ l. l ++ line) q.all }
 text_piece false file pending line whole h q = record {

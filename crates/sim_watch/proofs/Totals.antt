@@ -11,7 +11,7 @@ use Rattle.sim_safe.specs.Run.{items_of, items_count}
 use Rattle.sim_safe.specs.Statistics.{statistics_back}
 use Rattle.sim_watch.specs.Statistics.{loads_in, stores_in, branches_in, calls_in, statistics_of}
 
-length_onto : (is h : List Item) → length (onto is h) ≡ length h + length is
+pub length_onto : (is h : List Item) → length (onto is h) ≡ length h + length is
 length_onto [] h = omega arith
 length_onto (i ∷ is) h = let k : length (onto is (i ∷ h)) ≡ length (i ∷ h) + length is = length_onto is (i ∷ h) in omega arith
 
@@ -40,7 +40,7 @@ calls_back : (h : List Item) → (statistics_back h).calls ≡ sum_by calls_in h
 calls_back [] = refl
 calls_back (i ∷ h) = omega (arith, calls_back h, sum_by-cons calls_in i h)
 
-same_statistics : (a b : Statistics) → a.insn ≡ b.insn → a.loads ≡ b.loads → a.stores ≡ b.stores → a.branches ≡ b.branches → a.calls ≡ b.calls → a ≡ b
+pub same_statistics : (a b : Statistics) → a.insn ≡ b.insn → a.loads ≡ b.loads → a.stores ≡ b.stores → a.branches ≡ b.branches → a.calls ≡ b.calls → a ≡ b
 same_statistics a b p q r s t =
     let insn : ℕ → Statistics = λ x. record { insn = x; loads = a.loads; stores = a.stores; branches = a.branches; calls = a.calls } in
     let loads : ℕ → Statistics = λ x. record { insn = b.insn; loads = x; stores = a.stores; branches = a.branches; calls = a.calls } in
@@ -49,7 +49,7 @@ same_statistics a b p q r s t =
     let calls : ℕ → Statistics = λ x. record { insn = b.insn; loads = b.loads; stores = b.stores; branches = b.branches; calls = x } in
     ap insn p ∙ ap loads q ∙ ap stores r ∙ ap branches s ∙ ap calls t
 
-statistics_onto : (is : List Item) → statistics_back (onto is []) ≡ statistics_of is
+pub statistics_onto : (is : List Item) → statistics_back (onto is []) ≡ statistics_of is
 statistics_onto is =
     let h = onto is [] in
     same_statistics (statistics_back h) (statistics_of is)

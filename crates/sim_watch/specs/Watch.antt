@@ -5,6 +5,7 @@ use Rattle.event_trace.specs.declared.trace.Block.{Block}
 use Rattle.journal.specs.declared.fault.Fault.{Fault}
 use Rattle.journal.specs.declared.fault.Fault.TheVariants as fault
 use Rattle.journal.specs.Write.{Journal, Append, Output}
+use Rattle.journal.specs.Texts.{text_in}
 use Rattle.journal.specs.View.{View, Wrote, Cut}
 use Rattle.journal.specs.Laws.{wrote_none}
 use Rattle.sim_safe.specs.declared.observer.Meaning.{Meaning}
@@ -71,6 +72,14 @@ finished file w = last_piece file w.pending ++ w.journal
 abbrev pub run_journal : Option (List ℕ) → List Item → Journal
 run_journal file items = finished file (written_of file [] (onto items []))
 
+-- ---- texts of files
+
+-- what a file got from a journal, and what is pending for it, are this text
+pub record TextAt (file : List ℕ) (h : Journal) (pending whole : List ℕ) : Type 0 where
+  pub text : List ℕ
+  pub is : text_in h file ≡ Some text
+  pub all : text ++ pending ≡ whole
+
 -- ---- faults
 
 -- what a fault of a watch comes from
@@ -106,6 +115,11 @@ CutByKept v file was a h (Some f) b = CutAtNewest v file was a h f b
 abbrev pub WritesOrCut : {O T : Type 0} → View O → O → Journal → O → Result T Fault → Type 0
 WritesOrCut v a h b (Ok x) = Wrote v a h b
 WritesOrCut v a h b (Err f) = Cut v a h f b
+
+-- what is pending is written where it is long
+abbrev pub WritesLong : {O T : Type 0} → View O → O → (file text : List ℕ) → O → List ℕ → Result T Fault → Type 0
+WritesLong v a file text b pending (Ok x) = Wrote v a (piece_of file text) b × (pending ≡ left_of text)
+WritesLong v a file text b pending (Err f) = Cut v a (piece_of file text) f b
 
 -- a line is added to what is pending
 abbrev pub WritesLine : {O T : Type 0} → View O → O → Option (List ℕ) → (was line : List ℕ) → O → List ℕ → Result T Fault → Type 0

@@ -23,8 +23,12 @@ pub struct Watched {
     pub statistics: Statistics,
 }
 
-/// Writes all that is pending to a file, where one is named.
-fn finish<O: Outside>(outside: &mut O, file: Option<&str>, pending: &[u8]) -> Result<(), Fault>
+/// Writes all that is pending to a file, of whatever length, where one is named.
+pub fn write_rest<O: Outside>(
+    outside: &mut O,
+    file: Option<&str>,
+    pending: &[u8],
+) -> Result<(), Fault>
     ensures { WritesOrCut O.view outside.old (last_piece (option_copied file.entry) pending.now) outside.new result }
 {
     match file {
@@ -55,7 +59,7 @@ fn observe<O: Outside>(
         Err(RunFault::Watch(fault)) => return Err(watch.fault.unwrap_or(fault)),
         Err(RunFault::OutOfMemory) => return Err(Fault::OutOfMemory),
     };
-    match finish(watch.outside, *watch.file, watch.pending.as_slice()) {
+    match write_rest(watch.outside, *watch.file, watch.pending.as_slice()) {
         Ok(()) => Ok(Watched {
             end,
             statistics: watch.statistics,

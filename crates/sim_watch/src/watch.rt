@@ -5,7 +5,7 @@ ghost use Rattle.journal.specs.View.{Wrote};
 ghost use Rattle.sim_safe.specs.Record.{Item, IsRunTrace, item_of};
 ghost use Rattle.sim_safe.specs.Commit.{line_of};
 ghost use Rattle.sim_safe.specs.Statistics.{no_statistics, statistics_back};
-ghost use Rattle.sim_watch.specs.Watch.{puts_of, written_of, meaning_of, faults_of, CutByKept, WritesOrCut, WritesLine, nothing_written, nothing_pending};
+ghost use Rattle.sim_watch.specs.Watch.{puts_of, written_of, meaning_of, faults_of, CutByKept, WritesOrCut, WritesLine, WritesLong, nothing_written, nothing_pending};
 
 use event_trace::{Block, Trace};
 use journal::{Fault, Outside};
@@ -30,8 +30,8 @@ pub struct TextWatch<'a, 'f, 'n, 'p, O> {
 /// Lines are written once so many bytes are pending.
 const PIECE: usize = 65536;
 
-/// Puts the bytes of blocks on the first stream.
-fn emit<O: Outside>(outside: &mut O, blocks: &[Block]) -> Result<(), Fault>
+/// Puts the bytes of blocks on the first stream, one block after another.
+pub fn emit<O: Outside>(outside: &mut O, blocks: &[Block]) -> Result<(), Fault>
     ensures { WritesOrCut O.view outside.old (puts_of blocks.now) outside.new result }
 {
     for block in blocks {
@@ -41,6 +41,27 @@ fn emit<O: Outside>(outside: &mut O, blocks: &[Block]) -> Result<(), Fault>
         }
     }
     Ok(())
+}
+
+/// Writes what is pending to the file, behind what that holds, once it has 65,536 bytes or more; then
+/// nothing is pending.
+pub fn write_long<O: Outside>(
+    outside: &mut O,
+    file: &str,
+    pending: &mut Vec<u8>,
+) -> Result<(), Fault>
+    ensures { WritesLong O.view outside.old file.now pending.old.items outside.new pending.new.items result }
+{
+    if pending.len() < PIECE {
+        return Ok(());
+    }
+    match outside.append(file, pending.as_slice()) {
+        Ok(()) => {
+            pending.clear();
+            Ok(())
+        }
+        Err(fault) => Err(fault),
+    }
 }
 
 /// Adds the line of an instruction to what is pending, and writes that to the file where it is long.
@@ -59,21 +80,13 @@ fn write_line<O: Outside>(
         Ok(()) => {}
         Err(_) => return Err(Fault::OutOfMemory),
     }
-    if pending.len() < PIECE {
-        return Ok(());
-    }
-    match outside.append(file, pending.as_slice()) {
-        Ok(()) => {
-            pending.clear();
-            Ok(())
-        }
-        Err(fault) => Err(fault),
-    }
+    write_long(outside, file, pending)
 }
 
-/// Does so where a file is named.
+/// Adds the line of an instruction to what is pending, and writes that to the file where it is long.
+/// Where no file is named there is no commit text, and nothing is done.
 #[inline(always)]
-fn write_line_if_named<O: Outside>(
+pub fn write_line_if_named<O: Outside>(
     outside: &mut O,
     file: Option<&str>,
     pending: &mut Vec<u8>,

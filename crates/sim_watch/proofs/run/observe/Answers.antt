@@ -89,17 +89,17 @@ returns-in-Err-OutOfMemory-clause-ends g c =
       at = inr (memory_behind v a b (written_of file [] h).journal (last_piece file (written_of file [] h).pending) (from_nothing v file was a b h c.requires.pending t.wrote));
     }
 
-pub returns-in-Ok-finish-clause-same : goal.returns-in-Ok-finish-clause-same
-returns-in-Ok-finish-clause-same g c =
+pub returns-in-Ok-write_rest-clause-same : goal.returns-in-Ok-write_rest-clause-same
+returns-in-Ok-write_rest-clause-same g c =
     let t = c.in-Ok.ensures.took c.args.watch.now [] (record { outside_same = refl; file = refl; pending = nothing_pending (option_copied c.args.watch.now.file.now) c.args.watch.now.pending.now.items; wrote = nothing_written g.O.Outside.view c.args.watch.now.outside.now (option_copied c.args.watch.now.file.now) c.args.watch.now.pending.now.items; statistics = λ e l. e }) in
     t.outside_same
 
-pub returns-in-Ok-finish-clause-writes : goal.returns-in-Ok-finish-clause-writes
-returns-in-Ok-finish-clause-writes g c =
+pub returns-in-Ok-write_rest-clause-writes : goal.returns-in-Ok-write_rest-clause-writes
+returns-in-Ok-write_rest-clause-writes g c =
     let v = g.O.Outside.view in
     let a = c.args.watch.now.outside.now in
     let b = c.run.new.o.outside.now in
-    let d = c.finish.new.outside in
+    let d = c.write_rest.new.outside in
     let file = option_copied c.args.watch.now.file.now in
     let other = option_copied c.run.new.o.file.now in
     let was = c.args.watch.now.pending.now.items in
@@ -109,10 +109,10 @@ returns-in-Ok-finish-clause-writes g c =
     let h = onto is [] in
     let last = last_piece other c.as_slice.result.now in
     let t = c.in-Ok.ensures.took c.args.watch.now [] (record { outside_same = refl; file = refl; pending = nothing_pending (option_copied c.args.watch.now.file.now) c.args.watch.now.pending.now.items; wrote = nothing_written g.O.Outside.view c.args.watch.now.outside.now (option_copied c.args.watch.now.file.now) c.args.watch.now.pending.now.items; statistics = λ e l. e }) in
-    run_written v a b d file is last (last_is file other was pending c.as_slice.result.now h c.requires.pending t.file t.pending c.as_slice.ensures.value) (from_nothing v file was a b h c.requires.pending t.wrote) c.in-Ok-finish.ensures
+    run_written v a b d file is last (last_is file other was pending c.as_slice.result.now h c.requires.pending t.file t.pending c.as_slice.ensures.value) (from_nothing v file was a b h c.requires.pending t.wrote) c.in-Ok-write_rest.ensures
 
-pub returns-in-Ok-finish-clause-ends : goal.returns-in-Ok-finish-clause-ends
-returns-in-Ok-finish-clause-ends g c =
+pub returns-in-Ok-write_rest-clause-ends : goal.returns-in-Ok-write_rest-clause-ends
+returns-in-Ok-write_rest-clause-ends g c =
     let t = c.in-Ok.ensures.took c.args.watch.now [] (record { outside_same = refl; file = refl; pending = nothing_pending (option_copied c.args.watch.now.file.now) c.args.watch.now.pending.now.items; wrote = nothing_written g.O.Outside.view c.args.watch.now.outside.now (option_copied c.args.watch.now.file.now) c.args.watch.now.pending.now.items; statistics = λ e l. e }) in
     record {
       end = c.in-Ok.ensures.state.1;
@@ -130,7 +130,7 @@ returns-in-Err-clause-writes g c =
     let v = g.O.Outside.view in
     let a = c.args.watch.now.outside.now in
     let b = c.run.new.o.outside.now in
-    let d = c.finish.new.outside in
+    let d = c.write_rest.new.outside in
     let file = option_copied c.args.watch.now.file.now in
     let other = option_copied c.run.new.o.file.now in
     let was = c.args.watch.now.pending.now.items in
@@ -148,7 +148,7 @@ returns-in-Err-clause-ends g c =
     let v = g.O.Outside.view in
     let a = c.args.watch.now.outside.now in
     let b = c.run.new.o.outside.now in
-    let d = c.finish.new.outside in
+    let d = c.write_rest.new.outside in
     let file = option_copied c.args.watch.now.file.now in
     let other = option_copied c.run.new.o.file.now in
     let was = c.args.watch.now.pending.now.items in
