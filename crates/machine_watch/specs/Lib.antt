@@ -1,0 +1,4 @@
+pub mod Watch
+pub mod Texts
+pub mod Laws
+pub mod Propers
