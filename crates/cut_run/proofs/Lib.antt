@@ -1,0 +1,5 @@
+mod Points
+pub mod Rounds
+mod Whole
+mod Outputs
+mod Restores

@@ -1,0 +1,4 @@
+pub mod Point
+pub mod Parts
+pub mod Plan
+pub mod Comes
