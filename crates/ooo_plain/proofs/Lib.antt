@@ -9,3 +9,4 @@ pub mod Told
 pub mod IssueTurns
 pub mod NextFetches
 pub mod Updated
+pub mod Untils

@@ -28,7 +28,7 @@ same_default at [] d e h = absurd (omega arith)
 same_default zero (x ∷ xs) d e h = refl
 same_default (suc at) (x ∷ xs) d e h = same_default at xs d e (omega arith)
 
-cons_parts : {X : Type 0} (x y : X) (xs ys : List X) → x ∷ xs ≡ y ∷ ys → record { first : x ≡ y; rest : xs ≡ ys }
+pub cons_parts : {X : Type 0} (x y : X) (xs ys : List X) → x ∷ xs ≡ y ∷ ys → record { first : x ≡ y; rest : xs ≡ ys }
 cons_parts x y xs ys e = record { first = ap (λ l. get_or l 0 x) e; rest = ap (λ l. drop 1 l) e }
 
 -- the row at a place, and the rows behind it as a slice

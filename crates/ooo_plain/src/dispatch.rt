@@ -2,7 +2,7 @@
 ghost use Rattle.std.specs.Prelude.{◌≡◌, ◌<◌, ◌≤◌, length, ◌&&◌, ◌||◌, ◌==◌, ℕ, List, not, nat_lt, count_by, is_some, is_none, if◌then◌else◌};
 ghost use Rattle.std.specs.List.{list_all, list_any};
 ghost use Rattle.ooo_table.specs.Row as table;
-ghost use Rattle.ooo_table.specs.Row.{is_at, sweep};
+ghost use Rattle.ooo_table.specs.Row.{is_at, every, sweep};
 ghost use Rattle.ooo_table.specs.Table.{Setting};
 ghost use Rattle.ooo_table.specs.Execution.{uses_memory};
 ghost use Rattle.ooo_table.specs.Path.{execution};
@@ -141,4 +141,28 @@ pub fn dispatch(config: &OooConfig, rows: &mut [Row], cycle: u64)
         → AreKept set rows.new (sweep (dispatch_row set cycle) olds) }
 {
     dispatch_from(config, rows, 0, cycle);
+}
+
+/// Whether the machine stops at the row in the cycle, behind these rows.
+fn stops_at(older: &[Row], row: &Row, cycle: u64) -> bool
+    ensures { (set : Setting) (olds : List table.Row) (r : table.Row) → AreKept set older.now olds → row.now ≡ kept set r
+        → result ≡ stops_machine set cycle olds r }
+{
+    let first = is_first(older, row, cycle);
+    let empty = live_rows(older) == 0;
+    both(both(first, row.stops), empty)
+}
+
+/// Whether the machine stops in the cycle at one of the rows, which are as they stand before the dispatch stage.
+pub fn stops(rows: &[Row], cycle: u64) -> bool
+    ensures { (set : Setting) (olds : List table.Row) → AreKept set rows.now olds
+        → result ≡ not (every (λ older r. not (stops_machine set cycle older r)) olds) }
+{
+    match rows {
+        [] => false,
+        [row, older @ ..] => {
+            let here = stops_at(older, row, cycle);
+            either(here, stops(older, cycle))
+        }
+    }
 }
