@@ -16,6 +16,8 @@ use Rattle.event_trace.specs.Reading.{checked}
 use Rattle.event_trace.specs.World.{File}
 use Rattle.ss_base.specs.declared.text_fault.AsmFault.{AsmFault}
 use Rattle.ss_base.specs.declared.text_fault.AsmFault.TheVariants as text_fault
+use Rattle.sim_opts.specs.declared.asked.WordFault.{WordFault}
+use Rattle.sim_opts.specs.declared.asked.WordFault.TheVariants as word_fault
 use Rattle.journal.specs.declared.fault.Fault.{Fault}
 use Rattle.journal.specs.declared.fault.Fault.TheVariants as fault
 use Rattle.journal.specs.declared.loading.Found.{Found}
@@ -89,6 +91,10 @@ IsGiven (Some bytes) big trace = IsTraceOf bytes big trace
 -- ---- calls that judge
 
 -- the refusal of a fault of a reader
+abbrev pub word_refusal : WordFault → Refusal
+word_refusal (word_fault.Bad at reason) = refusals.Answer (answer.Words at reason)
+word_refusal word_fault.OutOfMemory = refusals.OutOfMemory
+
 abbrev pub object_refusal : ObjectFault → Refusal
 object_refusal (object_fault.Bad at reason) = refusals.Answer (answer.Object at reason)
 object_refusal object_fault.OutOfMemory = refusals.OutOfMemory

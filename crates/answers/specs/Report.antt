@@ -1,5 +1,7 @@
 -- What commands put on their second stream: a line where they refuse, and the statistics of a run.
 use Rattle.std.specs.Prelude.{◌++◌, ℕ, List, [], codes, decimal}
+use Rattle.sim_opts.specs.declared.words.WordWhy.{WordWhy}
+use Rattle.sim_opts.specs.declared.words.WordWhy.TheVariants as word
 use Rattle.ecoff_load.specs.declared.fault.ObjectWhy.{ObjectWhy}
 use Rattle.ecoff_load.specs.declared.fault.ObjectWhy.TheVariants as object
 use Rattle.event_trace.specs.declared.fault.TraceWhy.{TraceWhy}
@@ -14,6 +16,21 @@ use Rattle.answers.specs.declared.answer.Answer.{Answer}
 use Rattle.answers.specs.declared.answer.Answer.TheVariants as answer
 
 -- ---- refusals
+
+abbrev pub word_why_text : WordWhy → List ℕ
+word_why_text word.NoCommand = codes "NoCommand"
+word_why_text word.Command = codes "Command"
+word_why_text word.Option = codes "Option"
+word_why_text word.NotHere = codes "NotHere"
+word_why_text word.Twice = codes "Twice"
+word_why_text word.Missing = codes "Missing"
+word_why_text word.Number = codes "Number"
+word_why_text word.Range = codes "Range"
+word_why_text word.Form = codes "Form"
+word_why_text word.NoObject = codes "NoObject"
+word_why_text word.Extra = codes "Extra"
+word_why_text word.TooLong = codes "TooLong"
+word_why_text word.Clash = codes "Clash"
 
 abbrev pub object_why_text : ObjectWhy → List ℕ
 object_why_text object.Short = codes "Short"
@@ -57,7 +74,7 @@ text_why_text text.Section = codes "Section"
 text_why_text text.Label = codes "Label"
 text_why_text text.Layout = codes "Layout"
 
--- a line with a kind of file, a place in it, and a reason
+-- a line with words or a kind of file, a place in it, and a reason
 abbrev pub refusal_line : List ℕ → ℕ → List ℕ → List ℕ
 refusal_line kind at why = codes "pisa: " ++ kind ++ codes " " ++ decimal at ++ codes " " ++ why ++ codes "\n"
 
@@ -65,8 +82,9 @@ refusal_line kind at why = codes "pisa: " ++ kind ++ codes " " ++ decimal at ++ 
 abbrev pub long_line : List ℕ → List ℕ
 long_line name = codes "pisa: too-long " ++ name ++ codes "\n"
 
--- the line of an answer that refuses a file; no other answer has one
+-- the line of an answer that refuses words or a file; no other answer has one
 abbrev pub fault_line : Answer → List ℕ
+fault_line (answer.Words at why) = refusal_line (codes "words") at (word_why_text why)
 fault_line (answer.Object at why) = refusal_line (codes "object") at (object_why_text why)
 fault_line (answer.Trace at why) = refusal_line (codes "trace") at (trace_why_text why)
 fault_line (answer.Text line why) = refusal_line (codes "text") line (text_why_text why)

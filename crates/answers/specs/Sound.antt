@@ -1,16 +1,16 @@
 -- What holds of the answer of every command, beside what it writes.
-use Rattle.std.specs.Prelude.{◌≡◌, ◌≢◌, ℕ, List, [], map, Contains}
+use Rattle.std.specs.Prelude.{◌≡◌, ℕ, List, [], map, Contains}
 use Rattle.journal.specs.declared.fault.Fault.TheVariants as fault
 use Rattle.journal.specs.Write.{Journal, Lacks}
 use Rattle.journal.specs.Load.{Input}
 use Rattle.journal.specs.Outcome.{Outcome}
 use Rattle.answers.specs.declared.answer.Answer.{Answer}
 use Rattle.answers.specs.declared.answer.Answer.TheVariants as answer
-use Rattle.answers.specs.declared.answer.Unbuilt.TheVariants as unbuilt
 
 -- what was made has no report, a refusal has no output, and what isn't built writes nothing
 abbrev pub IsQuiet : Answer → Journal → Type 0
 IsQuiet answer.Made h = Lacks fault.Stat h
+IsQuiet (answer.Words at why) h = Lacks fault.Prog h
 IsQuiet (answer.Object at why) h = Lacks fault.Prog h
 IsQuiet (answer.Trace at why) h = Lacks fault.Prog h
 IsQuiet (answer.Text line why) h = Lacks fault.Prog h
@@ -24,6 +24,7 @@ IsQuiet answer.Budget h = Unit {0}
 abbrev pub NamesLong : List (List ℕ) → Answer → Type 0
 NamesLong names (answer.TooLong name) = Contains names name
 NamesLong names answer.Made = Unit {0}
+NamesLong names (answer.Words at why) = Unit {0}
 NamesLong names (answer.Object at why) = Unit {0}
 NamesLong names (answer.Trace at why) = Unit {0}
 NamesLong names (answer.Text line why) = Unit {0}
@@ -36,8 +37,21 @@ NamesLong names answer.Budget = Unit {0}
 abbrev pub names_of : List Input → List (List ℕ)
 names_of inputs = map (λ i. i.name) inputs
 
+-- an answer of a command that words ask for: it tells neither that words are wrong nor that something isn't built
+abbrev pub IsBuilt : Answer → Type 0
+IsBuilt (answer.Words at why) = ⊥
+IsBuilt (answer.NotBuilt what) = ⊥
+IsBuilt answer.Made = Unit {0}
+IsBuilt (answer.Object at why) = Unit {0}
+IsBuilt (answer.Trace at why) = Unit {0}
+IsBuilt (answer.Text line why) = Unit {0}
+IsBuilt (answer.TooLong name) = Unit {0}
+IsBuilt (answer.Exited code) = Unit {0}
+IsBuilt (answer.Stopped why pc icnt) = Unit {0}
+IsBuilt answer.Budget = Unit {0}
+
 -- an outcome of a command that loads these files is quiet, names none but its own files, and is built
 pub record IsSound (inputs : List Input) (o : Outcome Answer) : Type 0 where
   pub quiet : IsQuiet o.ending o.writes
   pub names : NamesLong (names_of inputs) o.ending
-  pub built : o.ending ≢ answer.NotBuilt unbuilt.Words
+  pub built : IsBuilt o.ending

@@ -21,11 +21,10 @@ use Rattle.journal.specs.Load.{Input}
 use Rattle.journal.specs.Outcome.{Outcome}
 use Rattle.answers.specs.declared.answer.Answer.{Answer}
 use Rattle.answers.specs.declared.answer.Answer.TheVariants as answer
-use Rattle.answers.specs.declared.answer.Unbuilt.TheVariants as unbuilt
 use Rattle.answers.specs.Answer.{answered, refused, run_answer}
 use Rattle.answers.specs.Report.{fault_line}
 use Rattle.answers.specs.Judging.{LoadsFile, LoadsNamed, LoadsEach, JudgesObject, JudgesRead, JudgesGiven}
-use Rattle.answers.specs.Sound.{IsQuiet, NamesLong, IsSound, names_of}
+use Rattle.answers.specs.Sound.{IsQuiet, NamesLong, IsBuilt, IsSound, names_of}
 
 -- ---- refusals
 
@@ -35,20 +34,22 @@ Refuses names (answer.TooLong name) = Contains names name
 Refuses names (answer.Object at why) = Unit {0}
 Refuses names (answer.Trace at why) = Unit {0}
 Refuses names (answer.Text line why) = Unit {0}
+Refuses names (answer.Words at why) = ⊥
 Refuses names answer.Made = ⊥
 Refuses names (answer.NotBuilt what) = ⊥
 Refuses names (answer.Exited code) = ⊥
 Refuses names (answer.Stopped why pc icnt) = ⊥
 Refuses names answer.Budget = ⊥
 
-refused_with : (inputs : List Input) (a : Answer) → ((line : List ℕ) → IsQuiet a (Report line ∷ [])) → NamesLong (names_of inputs) a → (a ≡ answer.NotBuilt unbuilt.Words → ⊥) → IsSound inputs (refused a)
+refused_with : (inputs : List Input) (a : Answer) → ((line : List ℕ) → IsQuiet a (Report line ∷ [])) → NamesLong (names_of inputs) a → IsBuilt a → IsSound inputs (refused a)
 refused_with inputs a quiet names built = record { quiet = quiet (fault_line a); names = names; built = built }
 
 pub refused_sound : (inputs : List Input) (a : Answer) → Refuses (names_of inputs) a → IsSound inputs (refused a)
-refused_sound inputs (answer.TooLong name) r = refused_with inputs (answer.TooLong name) (λ line. (λ e. cc, tt)) r (λ e. cc)
-refused_sound inputs (answer.Object at why) r = refused_with inputs (answer.Object at why) (λ line. (λ e. cc, tt)) tt (λ e. cc)
-refused_sound inputs (answer.Trace at why) r = refused_with inputs (answer.Trace at why) (λ line. (λ e. cc, tt)) tt (λ e. cc)
-refused_sound inputs (answer.Text line why) r = refused_with inputs (answer.Text line why) (λ line. (λ e. cc, tt)) tt (λ e. cc)
+refused_sound inputs (answer.TooLong name) r = refused_with inputs (answer.TooLong name) (λ line. (λ e. cc, tt)) r tt
+refused_sound inputs (answer.Object at why) r = refused_with inputs (answer.Object at why) (λ line. (λ e. cc, tt)) tt tt
+refused_sound inputs (answer.Trace at why) r = refused_with inputs (answer.Trace at why) (λ line. (λ e. cc, tt)) tt tt
+refused_sound inputs (answer.Text line why) r = refused_with inputs (answer.Text line why) (λ line. (λ e. cc, tt)) tt tt
+refused_sound inputs (answer.Words at why) r = absurd r
 refused_sound inputs answer.Made r = absurd r
 refused_sound inputs (answer.NotBuilt what) r = absurd r
 refused_sound inputs (answer.Exited code) r = absurd r
@@ -58,13 +59,13 @@ refused_sound inputs answer.Budget r = absurd r
 -- ---- what was made, and runs
 
 pub made_sound : (inputs : List Input) (h : Journal) → Lacks fault.Stat h → IsSound inputs (answered answer.Made h)
-made_sound inputs h quiet = record { quiet = quiet; names = tt; built = λ e. cc }
+made_sound inputs h quiet = record { quiet = quiet; names = tt; built = tt }
 
 -- the answer of a run is none of a refusal
 pub run_sound : (inputs : List Input) (end : RunEnd) (pc icnt : ℕ) (h : Journal) → IsSound inputs (answered (run_answer end pc icnt) h)
-run_sound inputs ends.Limit pc icnt h = record { quiet = tt; names = tt; built = λ e. cc }
-run_sound inputs (ends.Stop (cause.Exited code)) pc icnt h = record { quiet = tt; names = tt; built = λ e. cc }
-run_sound inputs (ends.Stop _) pc icnt h = record { quiet = tt; names = tt; built = λ e. cc }
+run_sound inputs ends.Limit pc icnt h = record { quiet = tt; names = tt; built = tt }
+run_sound inputs (ends.Stop (cause.Exited code)) pc icnt h = record { quiet = tt; names = tt; built = tt }
+run_sound inputs (ends.Stop _) pc icnt h = record { quiet = tt; names = tt; built = tt }
 
 -- ---- a fact of every outcome of a chain
 

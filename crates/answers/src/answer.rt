@@ -5,13 +5,14 @@ ghost use Rattle.answers.specs.Answer.{stop_answer, run_answer};
 use ecoff_load::ObjectWhy;
 use event_trace::TraceWhy;
 use pisa_step::Cause;
+use sim_opts::WordWhy;
 use sim_safe::RunEnd;
 use ss_base::{Name, TextWhy};
 
 /// What is not built yet.
 #[derive(Clone, Copy, Debug, PartialEq, Eq)]
 pub enum Unbuilt {
-    /// The words have no shape that is built.
+    /// The command that the words name, or a point of a run.
     Words,
 }
 
@@ -22,6 +23,8 @@ pub enum Answer {
     Exited { code: u32 },
     /// The command did its work, and no program ran.
     Made,
+    /// The words are wrong at this place, counted from 0.
+    Words { at: u32, why: WordWhy },
     /// The object is refused at this place of its file, counted from 0.
     Object { at: u64, why: ObjectWhy },
     /// The trace is refused at this place of its file, counted from 0.
@@ -30,7 +33,8 @@ pub enum Answer {
     Stopped { cause: Cause, pc: u32, icnt: u64 },
     /// The run did as many instructions as it may.
     Budget,
-    /// The source is refused at this line, counted from 1, or as a whole at 0.
+    /// The source is refused at this line, counted from 1, or as a whole at 0, or the configuration at
+    /// this line.
     Text { line: u32, why: TextWhy },
     /// The file of this name is longer than it may be.
     TooLong { name: Name },

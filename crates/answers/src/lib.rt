@@ -1,9 +1,9 @@
 //! How commands answer: the answers and refusals that they share, with their last words.
 //!
 //! A command that meets no fault ends with an `Answer`. The crate judges objects and traces, says
-//! which file is refused, where and why, and puts the line of a refusal, or the statistics of a run,
-//! on the second stream. It promises that what is judged is what the readers' own definitions say,
-//! that the line of a refusal is the one of its answer, and that nothing but this one report is
+//! where words or a file are refused and why, and puts the line of a refusal, or the statistics of a
+//! run, on the second stream. It promises that what is judged is what the readers' own definitions
+//! say, that the line of a refusal is the one of its answer, and that nothing but this one report is
 //! written.
 #![tactic(auto)]
 

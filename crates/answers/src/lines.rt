@@ -1,11 +1,33 @@
 //! The lines with which commands refuse.
 ghost use Rattle.std.specs.Prelude.{◌≡◌, ◌++◌, OnOk, codes};
-ghost use Rattle.answers.specs.Report.{object_why_text, trace_why_text, text_why_text, refusal_line, fault_line};
+ghost use Rattle.answers.specs.Report.{word_why_text, object_why_text, trace_why_text, text_why_text, refusal_line, fault_line};
 
 use crate::answer::Answer;
 use ecoff_load::ObjectWhy;
 use event_trace::TraceWhy;
+use sim_opts::WordWhy;
 use ss_base::{OutOfMemory, TextWhy, push_decimal};
+
+/// The name of a reason for which words are wrong.
+fn word_why_name(why: WordWhy) -> &'static str
+    ensures { result.now ≡ word_why_text why }
+{
+    match why {
+        WordWhy::NoCommand => "NoCommand",
+        WordWhy::Command => "Command",
+        WordWhy::Option => "Option",
+        WordWhy::NotHere => "NotHere",
+        WordWhy::Twice => "Twice",
+        WordWhy::Missing => "Missing",
+        WordWhy::Number => "Number",
+        WordWhy::Range => "Range",
+        WordWhy::Form => "Form",
+        WordWhy::NoObject => "NoObject",
+        WordWhy::Extra => "Extra",
+        WordWhy::TooLong => "TooLong",
+        WordWhy::Clash => "Clash",
+    }
+}
 
 /// The name of a reason for which an object is refused.
 fn object_why_name(why: ObjectWhy) -> &'static str
@@ -46,7 +68,7 @@ fn trace_why_name(why: TraceWhy) -> &'static str
     }
 }
 
-/// The name of a reason for which a source is refused.
+/// The name of a reason for which a source or a configuration is refused.
 fn text_why_name(why: TextWhy) -> &'static str
     ensures { result.now ≡ text_why_text why }
 {
@@ -75,7 +97,7 @@ pub fn push_text(into: &mut Vec<u8>, text: &str) -> Result<(), OutOfMemory>
     Ok(())
 }
 
-/// Adds the line of a refusal at a place of a file of some kind.
+/// Adds the line of a refusal at a place of words or of a file of some kind.
 fn push_refusal(into: &mut Vec<u8>, kind: &str, at: u64, why: &str) -> Result<(), OutOfMemory>
     ensures { OnOk result (into.new.items ≡ into.old.items ++ refusal_line kind.now at why.now) }
 {
@@ -102,6 +124,9 @@ pub fn push_fault_line(into: &mut Vec<u8>, answer: &Answer) -> Result<(), OutOfM
     ensures { OnOk result (into.new.items ≡ into.old.items ++ fault_line answer.now) }
 {
     match answer {
+        Answer::Words { at, why } => {
+            push_refusal(into, "words", u64::from(*at), word_why_name(*why))
+        }
         Answer::Object { at, why } => push_refusal(into, "object", *at, object_why_name(*why)),
         Answer::Trace { at, why } => push_refusal(into, "trace", *at, trace_why_name(*why)),
         Answer::Text { line, why } => {

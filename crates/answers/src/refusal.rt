@@ -1,8 +1,8 @@
-//! Refusals: a file that isn't fit for a command, or no memory to judge it.
+//! Refusals: words or a file that aren't fit for a command, or no memory to judge them.
 ghost use Rattle.std.specs.Prelude.{◌≡◌, IfOk};
 ghost use Rattle.journal.specs.Outcome.{Ends};
 ghost use Rattle.answers.specs.Answer.{refused};
-ghost use Rattle.answers.specs.Judging.{object_refusal, trace_refusal, text_refusal, Refuses};
+ghost use Rattle.answers.specs.Judging.{word_refusal, object_refusal, trace_refusal, text_refusal, Refuses};
 ghost use Rattle.answers.specs.declared.refusal.Refusal.TheVariants as refusals;
 
 use crate::answer::Answer;
@@ -11,16 +11,28 @@ use crate::report::put_answer;
 use ecoff_load::ObjectFault;
 use event_trace::TraceFault;
 use journal::{Fault, Outside};
+use sim_opts::WordFault;
 use ss_base::{AsmFault, Name, OutOfMemory};
 use std::alloc::Global;
 
-/// Why a command does not go on with its files.
+/// Why a command does not go on.
 #[derive(Debug, Drop)]
 pub enum Refusal {
-    /// A file is refused with this answer.
+    /// The words or a file are refused with this answer.
     Answer(Answer),
     /// A growth found no memory.
     OutOfMemory,
+}
+
+impl From<WordFault> for Refusal {
+    ghost from_gives = { λ fault refusal. refusal ≡ word_refusal fault };
+
+    fn from(fault: WordFault) -> Refusal {
+        match fault {
+            WordFault::Bad { at, why } => Refusal::Answer(Answer::Words { at, why }),
+            WordFault::OutOfMemory => Refusal::OutOfMemory,
+        }
+    }
 }
 
 impl From<ObjectFault> for Refusal {

@@ -1,6 +1,7 @@
 //! Each call that can want memory once, over memory.
-use crate::{Answer, judge_object, judge_trace, refuse, refuse_long, report_run};
+use crate::{Answer, Refusal, judge_object, judge_trace, refuse, refuse_long, report_run};
 use journal::Borrowed;
+use sim_opts::{WordFault, WordWhy};
 use sim_safe::{RunEnd, Statistics};
 use ss_base::{MemShelf, MemSink};
 use std::alloc::Global;
@@ -9,7 +10,7 @@ use std::test::Fail;
 /// A trace of no record, in version 2 and little-endian.
 const TRACE: [u8; 16] = [80, 69, 88, 84, 48, 48, 48, 50, 0, 0, 0, 0, 0, 0, 0, 0];
 
-/// Refuses an object of no bytes and a file that is too long, and reports a run that ended at its
+/// Refuses words, an object of no bytes and a file that is too long, and reports a run that ended at its
 /// budget; tells whether the second stream has their words, and the first one nothing.
 fn answers_are_told(alloc: Global) -> Result<bool, Fail> {
     let mut shelf = MemShelf::new(alloc);
@@ -20,6 +21,11 @@ fn answers_are_told(alloc: Global) -> Result<bool, Fail> {
         prog: &mut prog,
         stat: &mut stat,
     };
+    let extra = Refusal::from(WordFault::Bad {
+        at: 4,
+        why: WordWhy::Extra,
+    });
+    let words = refuse(alloc, extra, &mut outside);
     let refused = match judge_object(alloc, &[]) {
         Ok(_) => false,
         Err(refusal) => matches!(
@@ -38,10 +44,17 @@ fn answers_are_told(alloc: Global) -> Result<bool, Fail> {
     );
     Ok(
         refused
+            && matches!(
+                &words,
+                Ok(Answer::Words {
+                    at: 4,
+                    why: WordWhy::Extra
+                })
+            )
             && matches!(&long, Ok(Answer::TooLong { name }) if name.as_str() == "big")
             && matches!(&run, Ok(Answer::Budget))
             && stat.bytes().starts_with(
-                b"pisa: object 0 Short\npisa: too-long big\nsim_skipped 0\n".as_slice(),
+                b"pisa: words 4 Extra\npisa: object 0 Short\npisa: too-long big\nsim_skipped 0\n".as_slice(),
             )
             && prog.bytes().is_empty(),
     )

@@ -1,9 +1,5 @@
 pub mod Numbers
 pub mod Starts
-pub mod Taken
-pub mod Shapes
-pub mod Recordings
-pub mod Requests
 pub mod Lists
 pub mod Judged
 pub mod Walking
@@ -15,3 +11,4 @@ pub mod LineWords
 pub mod Configuring
 pub mod LineGrammar
 pub mod Together
+pub mod Asking

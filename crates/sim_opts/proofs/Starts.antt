@@ -1,94 +1,91 @@
--- What a program can be started with, as tests and as facts.
-use Rattle.std.proofs.Common.{◌≡◌, ◌≤◌, ℕ, suc, Bool, true, false, List, [], ◌∷◌, length, Option, Some, None, IfSome, option_map, unwrap_or, decimal, if◌then◌else◌, ◌&&◌, All, refl, sym, subst, ◌∙◌, ap, arith}
-use Rattle.std.specs.List.{list_all}
-use Rattle.std.proofs.lemmas.List.Elements.{All-nil, All-cons}
+-- What a program can be started with, as a test and as a fact, and that what is asked for can be started.
+use Rattle.std.proofs.Common.{◌≡◌, ℕ, Bool, true, false, List, [], ◌∷◌, length, filter, Option, Some, None, Result, Ok, Err, if◌then◌else◌, refl, sym, subst, ap, ◌∙◌, arith}
 use Rattle.ecoff_load.specs.Start.{block}
 use Rattle.ecoff_load.proofs.Block.{length-block}
-use Rattle.sim_opts.specs.Word.{IsFile, is_file, IsOperand, is_operand, start_block_length, fits_start_block, object_of}
-use Rattle.sim_opts.specs.Request.{IsLimit, IsStart}
-use Rattle.sim_opts.specs.Reading.{may_be_file, limit_of}
-use Rattle.sim_opts.proofs.Numbers.{number_of-some, number_of-decimal}
-
--- which branch gave a value
-pub given : {A : Type 0} (b : Bool) (x : Option A) (value : A) → (if b then x else None) ≡ Some value → (b ≡ true) × (x ≡ Some value)
-given true x value h = (refl, h)
-given false x value h = cc
-
-pub is_file-told : (name : List ℕ) → is_file name ≡ true → IsFile name
-is_file-told name h = grind arith
-
-pub is_file-holds : (name : List ℕ) → IsFile name → is_file name ≡ true
-is_file-holds name h = grind arith
-
-pub is_operand-told : (name : List ℕ) → is_operand name ≡ true → IsOperand name
-is_operand-told name h = record { file = grind (arith, h); no_option = λ e. grind (arith, h, e) }
-
-pub is_operand-holds : (name : List ℕ) → IsOperand name → is_operand name ≡ true
-is_operand-holds name k = grind (arith, k.file, k.no_option)
-
-pub may_be_file-told : (name : Option (List ℕ)) → may_be_file name ≡ true → IfSome name IsFile
-may_be_file-told None h = tt
-may_be_file-told (Some name) h = is_file-told name h
-
-pub may_be_file-holds : (name : Option (List ℕ)) → IfSome name IsFile → may_be_file name ≡ true
-may_be_file-holds None h = refl
-may_be_file-holds (Some name) h = is_file-holds name h
-
-split : (a b : Bool) → (a && b) ≡ true → (a ≡ true) × (b ≡ true)
-split true b h = (refl, h)
-split false b h = cc
-
--- a limit that was read
-pub record LimitTold (words : Option (List ℕ)) (max_inst : ℕ) : Type 0 where
-  pub limit : Option ℕ
-  pub words_are : option_map decimal limit ≡ words
-  pub limited : IsLimit limit max_inst
-
-pub limit_of-told : (words : Option (List ℕ)) (max_inst : ℕ) → limit_of words ≡ Some max_inst → LimitTold words max_inst
-limit_of-told None max_inst h = record { limit = None; words_are = refl; limited = record { most = tt; value = cc } }
-limit_of-told (Some text) max_inst h =
-    let told = number_of-some text max_inst h in
-    record { limit = Some max_inst; words_are = ap Some (sym told.0); limited = record { most = told.1; value = refl } }
-
-pub limit_of-holds : (limit : Option ℕ) (max_inst : ℕ) → IsLimit limit max_inst → limit_of (option_map decimal limit) ≡ Some max_inst
-limit_of-holds None max_inst k = ap Some (sym k.value)
-limit_of-holds (Some n) max_inst k = number_of-decimal n k.most ∙ ap Some (sym k.value)
-
-fits-told : (big : Bool) (args : List (List ℕ)) → fits_start_block args ≡ true → length (block big args) ≤ 16384
-fits-told big args h = grind (arith, length-block big args)
-
-fits-holds : (args : List (List ℕ)) → length (block false args) ≤ 16384 → fits_start_block args ≡ true
-fits-holds args h = grind (arith, length-block false args)
-
-pub object_of-told : (args : List (List ℕ)) (object : List ℕ) → object_of args ≡ Some object → IsStart object args
-object_of-told [] object h = cc
-object_of-told (first ∷ others) object h =
-    let outer = given (is_operand first) _ object h in
-    let inner = given (fits_start_block (first ∷ others)) _ object outer.1 in
-    record {
-      first = inner.1;
-      operand = subst IsOperand (ap (λ o. unwrap_or o first) inner.1) (is_operand-told first outer.0);
-      fits = λ big. fits-told big (first ∷ others) inner.0;
-    }
-
-pub object_of-holds : (args : List (List ℕ)) (object : List ℕ) → IsStart object args → object_of args ≡ Some object
-object_of-holds [] object k = cc
-object_of-holds (first ∷ others) object k =
-    ap (λ b. if b then (if fits_start_block (first ∷ others) then Some first else None) else None) (is_operand-holds first (subst IsOperand (sym (ap (λ o. unwrap_or o first) k.first)) k.operand))
-    ∙ ap (λ b. if b then Some first else None) (fits-holds (first ∷ others) (k.fits false))
-    ∙ k.first
-
-pub are_files-told : (names : List (List ℕ)) → list_all is_file names ≡ true → All IsFile names
-are_files-told [] h = All-nil IsFile
-are_files-told (name ∷ names) h =
-    let both = split (is_file name) (list_all is_file names) h in
-    All-cons IsFile name names (is_file-told name both.0) (are_files-told names both.1)
-
-pub are_files-holds : (names : List (List ℕ)) → All IsFile names → list_all is_file names ≡ true
-are_files-holds [] h = refl
-are_files-holds (name ∷ names) h =
-    ap (λ b. b && list_all is_file names) (is_file-holds name (h 0 name (omega arith)))
-    ∙ are_files-holds names (λ k d below. h (suc k) d (omega arith))
+use Rattle.ss_base.specs.declared.text_fault.AsmFault.{AsmFault}
+use Rattle.sim_opts.specs.declared.table.Tool.{Tool}
+use Rattle.sim_opts.specs.declared.table.Tool.TheVariants as tools
+use Rattle.sim_opts.specs.declared.words.Wrong.{Wrong}
+use Rattle.sim_opts.specs.declared.words.WordWhy.TheVariants as why
+use Rattle.sim_opts.specs.declared.options.Options.{Options}
+use Rattle.sim_opts.specs.declared.request.Request.{Request as Borrowed}
+use Rattle.sim_opts.specs.Word.{is_file, start_block_length, fits_start_block}
+use Rattle.sim_opts.specs.Settings.{Setting}
+use Rattle.sim_opts.specs.Words.{Asks, wrong, read, start_fault, restart_fault, out_fault, fault_or, operands_fault}
+use Rattle.sim_opts.specs.Options.{Said, said_in, said_by, said_behind, nothing_said, given_in, with_setting, with_settings, clash, Answers}
+use Rattle.sim_opts.specs.Configuration.{is_left, Configures}
+use Rattle.sim_opts.specs.Request.{Request, Words, NotBuilt, CanStart, Starts, told_place, needs_points, command_of, asked}
+use Rattle.sim_opts.specs.Borrowed.{request_in}
+use Rattle.sim_opts.proofs.Grammar.{read_ask}
 
 pub block_has_length : (big : Bool) (args : List (List ℕ)) → length (block big args) ≡ start_block_length args
 block_has_length big args = length-block big args
+
+pub can_start : (args : List (List ℕ)) → fits_start_block args ≡ true → CanStart args
+can_start args h big = grind (arith, length-block big args)
+
+-- ---- the arguments of words
+
+fault_first : (first second : Option Wrong) → fault_or first second ≡ None → first ≡ None
+fault_first None second h = refl
+fault_first (Some w) second h = cc
+
+start_if : (file fits : Bool) → (if file then (if fits then None else Some (wrong 0 why.TooLong)) else Some (wrong 0 why.Form)) ≡ None → fits ≡ true
+start_if true true h = refl
+start_if true false h = cc
+start_if false fits h = cc
+
+start_fits : (args : List (List ℕ)) → start_fault args ≡ None → fits_start_block args ≡ true
+start_fits [] h = cc
+start_fits (object ∷ args) h = start_if (is_file object) (fits_start_block (object ∷ args)) h
+
+-- options leave the arguments as they are
+pub args_stay : (a : Said) (settings : List Setting) → (with_settings a settings).args ≡ a.args
+args_stay a [] = refl
+args_stay a (s ∷ later) = args_stay (with_setting a s) later
+
+-- what options say before what stands behind them
+abbrev pub begun : Tool → List Setting → Said
+begun t settings = with_settings (record (nothing_said t) { given = given_in settings }) settings
+
+none_start : (t : Tool) (settings : List Setting) → CanStart (begun t settings).args
+none_start t settings = subst CanStart (sym (args_stay (record (nothing_said t) { given = given_in settings }) settings)) (can_start [] refl)
+
+behind_start : (t : Tool) (settings : List Setting) (operands : List (List ℕ)) → operands_fault t settings operands ≡ None → CanStart (said_behind t operands (begun t settings)).args
+behind_start tools.SimSafe settings operands h = can_start operands (start_fits operands (fault_first (start_fault operands) (restart_fault settings operands) h))
+behind_start tools.Record settings operands h = can_start operands (start_fits operands (fault_first (start_fault operands) (out_fault settings operands) h))
+behind_start tools.Asm settings operands h = none_start tools.Asm settings
+behind_start tools.Dis settings operands h = none_start tools.Dis settings
+
+said_start : (meaning : Result Asks Wrong) (o : Options) → ((a : Asks) → meaning ≡ Ok a → CanStart (said_by a).args) → Answers meaning (Ok o) → CanStart o.args
+said_start (Ok a) o f h = subst (λ (s : Said). CanStart s.args) (sym h) (f a refl)
+said_start (Err w) o f h = absurd h
+
+-- what words say can be started
+pub said_starts : (words : List (List ℕ)) (o : Options) → Answers (read words) (Ok o) → CanStart o.args
+said_starts words o h = said_start (read words) o (λ a e. behind_start a.tool a.settings a.operands (read_ask words a e).operands) h
+
+-- and a configuration leaves it so
+pub configured_starts : (meaning : Result (List Setting) AsmFault) (old new : Said) → Configures meaning old new (Ok tt) → CanStart old.args → CanStart new.args
+configured_starts (Ok settings) old new h start = subst CanStart (sym (ap (λ (s : Said). s.args) h ∙ args_stay old (filter (is_left old.given) settings))) start
+configured_starts (Err fault) old new h start = absurd h
+
+-- ---- what is asked for
+
+command_starts : (t : Tool) (a : Said) → CanStart a.args → Starts (command_of t a)
+command_starts tools.SimSafe a start = start
+command_starts tools.Record a start = start
+command_starts tools.Asm a start = tt
+command_starts tools.Dis a start = tt
+
+starts_if : (clashes points : Bool) (n : ℕ) (r : Request) → Starts r → Starts (if clashes then Words (told_place n) why.Clash else (if points then NotBuilt else r))
+starts_if true points n r start = tt
+starts_if false true n r start = tt
+starts_if false false n r start = start
+
+pub asked_starts : (n : ℕ) (a : Said) → CanStart a.args → Starts (asked n a)
+unfolding asked
+asked_starts n a start = starts_if (clash a) (needs_points a) n (command_of a.tool a) (command_starts a.tool a start)
+
+pub request_starts : (n : ℕ) (o : Options) (r : Borrowed) → request_in r ≡ asked n (said_in o) → CanStart o.args → Starts (request_in r)
+request_starts n o r e start = subst Starts (sym e) (asked_starts n (said_in o) start)

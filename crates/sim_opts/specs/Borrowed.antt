@@ -1,6 +1,6 @@
 -- The request that a borrowed value stands for.
 use Rattle.std.specs.Prelude.{option_copied, map, string_bytes}
-use Rattle.sim_opts.specs.Request.{Request, SimSafe, Record, Asm, Dis}
+use Rattle.sim_opts.specs.Request.{Request, SimSafe, Record, Asm, Dis, Words, NotBuilt}
 use Rattle.sim_opts.specs.declared.request.Request as borrowed
 use Rattle.sim_opts.specs.declared.request.SimSafe as safe
 use Rattle.sim_opts.specs.declared.request.Record as recorded
@@ -16,3 +16,5 @@ request_in (borrowed.TheVariants.SimSafe r) = sim_safe_in r
 request_in (borrowed.TheVariants.Record r) = record_in r
 request_in (borrowed.TheVariants.Asm source object) = Asm source.now object.now
 request_in (borrowed.TheVariants.Dis object) = Dis object.now
+request_in (borrowed.TheVariants.Words place reason) = Words place reason
+request_in borrowed.TheVariants.NotBuilt = NotBuilt

@@ -1,7 +1,4 @@
 pub mod Word
-pub mod Request
-pub mod Reading
-pub mod Borrowed
 pub mod Table
 pub mod Values
 pub mod Settings
@@ -10,3 +7,6 @@ pub mod Kept
 pub mod Options
 pub mod Configuration
 pub mod Lines
+pub mod Request
+pub mod RequestLaws
+pub mod Borrowed

@@ -1,8 +1,18 @@
--- What words ask for, and the words that ask for it.
-use Rattle.std.specs.Prelude.{◌≡◌, ◌^◌, ◌≤◌, ℕ, Bool, List, [], ◌∷◌, ◌++◌, length, All, Option, Some, None, IfSome, option_map, unwrap_or, slice_get, codes, decimal}
-use Rattle.std.specs.List.{flat_map}
+-- What words ask for, with what stands in the configuration that they name.
+use Rattle.std.specs.Prelude.{◌≤◌, ◌-◌, ◌^◌, ◌||◌, ℕ, Bool, List, [], length, min, nat_lt, is_some, Option, Some, None, Result, Ok, Err, unwrap_or, if◌then◌else◌}
 use Rattle.ecoff_load.specs.Start.{block}
-use Rattle.sim_opts.specs.Word.{IsFile, IsOperand}
+use Rattle.ss_base.specs.declared.text_fault.TextWhy.{TextWhy}
+use Rattle.ss_base.specs.declared.text_fault.AsmFault.{AsmFault}
+use Rattle.ss_base.specs.declared.text_fault.AsmFault.TheVariants as faults
+use Rattle.sim_opts.specs.declared.table.Tool.{Tool}
+use Rattle.sim_opts.specs.declared.table.Tool.TheVariants as tools
+use Rattle.sim_opts.specs.declared.words.WordWhy.{WordWhy}
+use Rattle.sim_opts.specs.declared.words.WordWhy.TheVariants as why
+use Rattle.sim_opts.specs.declared.words.Wrong.{Wrong}
+use Rattle.sim_opts.specs.Settings.{Setting}
+use Rattle.sim_opts.specs.Words.{Asks, read, is_unbuilt}
+use Rattle.sim_opts.specs.Options.{Said, said_by, clash}
+use Rattle.sim_opts.specs.Configuration.{configuration, with_configuration}
 
 pub data Request : Type 0 where
   -- run an object: the files for its commit text and of its recorded calls, the most instructions, the object, and the arguments from the object on
@@ -13,65 +23,79 @@ pub data Request : Type 0 where
   Asm : (source object : List ℕ) → Request
   -- print an object's instructions
   Dis : (object : List ℕ) → Request
+  -- nothing: the words are wrong at a place
+  Words : (place : ℕ) (reason : WordWhy) → Request
+  -- nothing: the configuration is wrong at a line
+  Text : (line : ℕ) (reason : TextWhy) → Request
+  -- something that isn't built
+  NotBuilt : Request
 
--- an option that may be missing: its name, and its value
-abbrev pub option_words : List ℕ → Option (List ℕ) → List (List ℕ)
-option_words name None = []
-option_words name (Some value) = name ∷ value ∷ []
+-- ---- options together
 
--- the most instructions of a run, where they are given
-abbrev pub limit_words : Option ℕ → List (List ℕ)
-limit_words limit = option_words (codes "-max:inst") (option_map decimal limit)
+-- a place as it is told
+abbrev pub told_place : ℕ → ℕ
+told_place n = min n (2 ^ 32 - 1)
 
--- the files that a program can open, each behind the option's name
-abbrev pub file_words : List (List ℕ) → List (List ℕ)
-file_words files = flat_map (λ file. codes "-file" ∷ file ∷ []) files
+-- a run starts at a point, writes one, or skips instructions, which isn't built
+abbrev pub needs_points : Said → Bool
+needs_points a = is_some a.restart || (is_some a.chkpt || nat_lt 0 a.fastfwd)
 
--- a run has a limit of at most 10^12 instructions, and of 10^9 where none is given
-pub record IsLimit (limit : Option ℕ) (max_inst : ℕ) : Type 0 where
-  pub most : IfSome limit (λ n. n ≤ 10 ^ 12)
-  pub value : max_inst ≡ unwrap_or limit 1000000000
+-- what a command is asked for
+abbrev pub command_of : Tool → Said → Request
+command_of tools.SimSafe a = SimSafe a.commits a.trace a.max_inst a.object a.args
+command_of tools.Record a = Record (unwrap_or a.out []) a.input a.files a.max_inst a.object a.args
+command_of tools.Asm a = Asm (unwrap_or a.source []) a.object
+command_of tools.Dis a = Dis a.object
 
--- the arguments begin with the object, and their start block has at most 16,384 bytes in either byte order
-pub record IsStart (object : List ℕ) (args : List (List ℕ)) : Type 0 where
-  pub first : slice_get args 0 ≡ Some object
-  pub operand : IsOperand object
-  pub fits : (big : Bool) → length (block big args) ≤ 16384
+-- what is asked for by options that so many words and their configuration say: where they clash, the words
+-- are wrong at their end
+unfoldable pub asked : ℕ → Said → Request
+asked words a = if clash a then Words (told_place words) why.Clash else (if needs_points a then NotBuilt else command_of a.tool a)
 
--- sim-safe [-commits FILE] [-trace FILE] [-max:inst N] OBJECT ARG..
-pub record IsSimSafe (words : List (List ℕ)) (commits trace : Option (List ℕ)) (max_inst : ℕ) (object : List ℕ) (args : List (List ℕ)) : Type 0 where
-  pub limit : Option ℕ
-  pub order : words ≡ codes "sim-safe" ∷ (option_words (codes "-commits") commits ++ (option_words (codes "-trace") trace ++ (limit_words limit ++ args)))
-  pub commits_file : IfSome commits IsFile
-  pub trace_file : IfSome trace IsFile
-  pub limited : IsLimit limit max_inst
-  pub start : IsStart object args
+-- ---- with a configuration
 
--- record -o FILE [-in FILE] [-file FILE].. [-max:inst N] OBJECT ARG..
-pub record IsRecord (words : List (List ℕ)) (out : List ℕ) (input : Option (List ℕ)) (files : List (List ℕ)) (max_inst : ℕ) (object : List ℕ) (args : List (List ℕ)) : Type 0 where
-  pub limit : Option ℕ
-  pub order : words ≡ codes "record" ∷ codes "-o" ∷ out ∷ (option_words (codes "-in") input ++ (file_words files ++ (limit_words limit ++ args)))
-  pub out_file : IsFile out
-  pub input_file : IfSome input IsFile
-  pub each_file : All IsFile files
-  pub few : length files ≤ 8
-  pub limited : IsLimit limit max_inst
-  pub start : IsStart object args
+-- a configuration is read or wrong at a line; that memory is wanted isn't said by its definition
+abbrev pub configured_by : ℕ → Said → Result (List Setting) AsmFault → Request
+configured_by words a (Ok settings) = asked words (with_configuration a settings)
+configured_by words a (Err (faults.Bad line reason)) = Text line reason
+configured_by words a (Err faults.OutOfMemory) = NotBuilt
 
--- asm SOURCE OBJECT
-pub record IsAsm (words : List (List ℕ)) (source object : List ℕ) : Type 0 where
-  pub order : words ≡ codes "asm" ∷ source ∷ object ∷ []
-  pub source_operand : IsOperand source
-  pub object_operand : IsOperand object
+-- what is asked for by options that words say, with the text of a configuration if there is one
+unfoldable pub configured : ℕ → Said → Option (List ℕ) → Request
+configured words a None = asked words a
+configured words a (Some text) = configured_by words a (configuration a.tool text)
 
--- dis OBJECT
-pub record IsDis (words : List (List ℕ)) (object : List ℕ) : Type 0 where
-  pub order : words ≡ codes "dis" ∷ object ∷ []
-  pub operand : IsOperand object
+-- ---- words
 
--- the words have the shape of a request
-abbrev pub HasShape : List (List ℕ) → Request → Type 0
-HasShape words (SimSafe commits trace max_inst object args) = IsSimSafe words commits trace max_inst object args
-HasShape words (Record out input files max_inst object args) = IsRecord words out input files max_inst object args
-HasShape words (Asm source object) = IsAsm words source object
-HasShape words (Dis object) = IsDis words object
+abbrev pub request_by : ℕ → Result Asks Wrong → Option (List ℕ) → Request
+request_by words (Ok a) text = configured words (said_by a) text
+request_by words (Err w) text = Words (told_place w.at) w.why
+
+-- what words ask for, with the text of the configuration that they name, if they name one: words that name a
+-- command that isn't built are nothing else
+unfoldable pub request_with : List (List ℕ) → Option (List ℕ) → Request
+request_with words text = if is_unbuilt words then NotBuilt else request_by (length words) (read words) text
+
+abbrev pub config_by : Result Asks Wrong → Option (List ℕ)
+config_by (Ok a) = (said_by a).config
+config_by (Err w) = None
+
+-- the configuration that words name, which is loaded before all other files
+unfoldable pub config_of : List (List ℕ) → Option (List ℕ)
+config_of words = if is_unbuilt words then None else config_by (read words)
+
+-- ---- starts
+
+-- a program can be started with these arguments: their start block has at most 16,384 bytes in either byte order
+abbrev pub CanStart : List (List ℕ) → Type 0
+CanStart args = (big : Bool) → length (block big args) ≤ 16384
+
+-- a program that is asked for can be started
+abbrev pub Starts : Request → Type 0
+Starts (SimSafe commits trace max_inst object args) = CanStart args
+Starts (Record out input files max_inst object args) = CanStart args
+Starts (Asm source object) = Unit {0}
+Starts (Dis object) = Unit {0}
+Starts (Words place reason) = Unit {0}
+Starts (Text line reason) = Unit {0}
+Starts NotBuilt = Unit {0}

@@ -22,7 +22,7 @@ pub enum WordFault {
 }
 
 /// A place as it is told.
-fn place_of(at: usize) -> u32
+pub(crate) fn place_of(at: usize) -> u32
     ensures { result ≡ min at (2 ^ 32 - 1) }
 {
     if at < u32::MAX as usize {

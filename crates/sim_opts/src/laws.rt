@@ -1,9 +1,7 @@
 //! What follows from the definitions, each law as the contract of a function that does nothing.
-ghost use Rattle.std.specs.Prelude.{◌≡◌, ℕ, ◌^◌, ◌≤◌, ◌++◌, ◌∷◌, [], Bool, true, false, List, length, None, decimal, Some, Ok, Err, ◌↔◌, ◌⊎◌};
+ghost use Rattle.std.specs.Prelude.{◌≡◌, ℕ, ◌^◌, ◌<◌, ◌++◌, ◌∷◌, [], Bool, true, false, List, Option, length, None, decimal, Some, Ok, Err, ◌↔◌, ◌⊎◌};
 ghost use Rattle.ecoff_load.specs.Start.{block};
-ghost use Rattle.sim_opts.specs.Word.{number_of, start_block_length};
-ghost use Rattle.sim_opts.specs.Request.{Request, HasShape};
-ghost use Rattle.sim_opts.specs.Reading.{request_of};
+ghost use Rattle.sim_opts.specs.Word.{digits_of, start_block_length};
 ghost use Rattle.sim_opts.specs.declared.table.Tool.{Tool};
 ghost use Rattle.ss_base.specs.declared.text_fault.TextWhy.{TextWhy};
 ghost use Rattle.ss_base.specs.declared.text_fault.AsmFault.TheVariants as faults;
@@ -11,29 +9,15 @@ ghost use Rattle.sim_opts.specs.Table.{Row, tool_name, row_named};
 ghost use Rattle.sim_opts.specs.Settings.{Setting, of_option, count, is_given, written, AreSettings};
 ghost use Rattle.sim_opts.specs.Options.{said_by, given_in};
 ghost use Rattle.sim_opts.specs.Configuration.{AreLines, IsWrongLine, read_lines, with_configuration, together};
-ghost use Rattle.sim_opts.specs.Words.{Asks, asks, Ask, IsFirstWrong, begins_with_option, operands_fault, read};
+ghost use Rattle.sim_opts.specs.Words.{Asks, asks, Ask, IsFirstWrong, begins_with_option, operands_fault, read, is_unbuilt};
+ghost use Rattle.sim_opts.specs.Request.{Text, Words, told_place, asked, request_with};
+ghost use Rattle.text_lines.specs.Lines.{lines_of};
 ghost use Rattle.sim_opts.specs.declared.words.Wrong.{Wrong};
 
-/// Words are read as a request exactly where they have its shape.
-#[tactic(auto, using(crate::proofs::Requests::shape_iff_read))]
-pub fn requests_are_read_by_their_shape()
-    ensures { (words : List (List ℕ)) (request : Request)
-        → HasShape words request ↔ (request_of words ≡ Some request) }
-{}
-
-/// Words have the shape of one request at most.
-#[tactic(auto, using(crate::proofs::Requests::one_request))]
-pub fn words_have_one_request()
-    ensures { (words : List (List ℕ)) (first second : Request)
-        → HasShape words first → HasShape words second → first ≡ second }
-{}
-
-/// A word is a number exactly where it is the number's decimal digits, and the number is at most
-/// 10^12.
-#[tactic(auto, using(crate::proofs::Numbers::number_iff_decimal))]
+/// A word is a number exactly where it is the number's decimal digits, of which there are at most 13.
 pub fn numbers_have_one_word()
     ensures { (word : List ℕ) (n : ℕ)
-        → (number_of word ≡ Some n) ↔ ((word ≡ decimal n) × (n ≤ 10 ^ 12)) }
+        → (digits_of word ≡ Some n) ↔ ((word ≡ decimal n) × (n < 10 ^ 13)) }
 {}
 
 /// A start block has the same length in both byte orders.
@@ -116,4 +100,17 @@ pub fn an_option_among_the_words_wins()
         → is_given row.number words ≡ true → of_option row.number (together words lines) ≡ of_option row.number words }
     ensures configuration { (words lines : List Setting) (number : ℕ)
         → is_given number words ≡ false → of_option number (together words lines) ≡ of_option number lines }
+{}
+
+/// What words ask for, as the grammars say: words that ask for something ask for what they say, together
+/// with the lines of a configuration; a wrong line of that is told, and so is the first wrong word, unless
+/// the first word names a command that is not built.
+pub fn requests_follow_the_grammars()
+    ensures alone { (words : List (List ℕ)) (a : Asks) → Ask words a → request_with words None ≡ asked (length words) (said_by a) }
+    ensures together { (words : List (List ℕ)) (text : List ℕ) (a : Asks) (settings : List Setting) → Ask words a → AreLines a.tool [] (lines_of text) settings
+        → request_with words (Some text) ≡ asked (length words) (with_configuration (said_by a) settings) }
+    ensures line { (words : List (List ℕ)) (text : List ℕ) (a : Asks) (number : ℕ) (reason : TextWhy) → Ask words a → IsWrongLine a.tool (lines_of text) number reason
+        → request_with words (Some text) ≡ Text number reason }
+    ensures word { (words : List (List ℕ)) (text : Option (List ℕ)) (w : Wrong) → is_unbuilt words ≡ false → IsFirstWrong words w
+        → request_with words text ≡ Words (told_place w.at) w.why }
 {}

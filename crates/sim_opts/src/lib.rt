@@ -1,10 +1,11 @@
 //! The words of a command: what they ask for.
 //!
-//! `read_request` reads the shapes of the commands as they are built, without memory. `read_words`
-//! reads words by one table of options (`table`): in any order, each no more often than it may
-//! stand. The crate promises that `read_words` answers exactly what the grammar of options says
-//! (`specs/Words`), or the first wrong place and its reason, and never both; that the order of
-//! options says nothing; and that options which are written are read back.
+//! `read_words` reads words by one table of options (`table`): in any order, each no more often than
+//! it may stand; `read_config` reads the lines of a configuration by the same table. What both say
+//! asks for something (`Options::request`). The crate promises that `read_words` answers exactly what
+//! the grammar of options says (`specs/Words`), or the first wrong place and its reason, and never
+//! both; that an option among the words wins over the configuration; that the order of options says
+//! nothing; and that options which are written are read back.
 #![tactic(auto)]
 
 mod asked;
@@ -14,11 +15,10 @@ mod configuration_tests;
 mod laws;
 mod names;
 mod options;
-mod reading;
 mod request;
-mod table;
 #[cfg(test)]
-mod tests;
+mod request_tests;
+mod table;
 mod values;
 mod word;
 mod words;
@@ -31,14 +31,13 @@ pub use laws::{
     a_configuration_says_what_words_would, a_limit_that_is_left_out_has_its_default,
     an_option_among_the_words_wins, configurations_are_read_by_the_grammar,
     configurations_are_refused_at_the_first_wrong_line, numbers_have_one_word,
-    requests_are_read_by_their_shape, start_blocks_have_their_length,
+    requests_follow_the_grammars, start_blocks_have_their_length,
     the_order_of_options_says_nothing, words_are_read_by_the_grammar,
     words_are_refused_at_the_first_wrong_place, words_ask_for_one_thing_at_most,
-    words_ask_for_something_or_are_wrong, words_have_one_request, written_options_are_read_back,
+    words_ask_for_something_or_are_wrong, written_options_are_read_back,
 };
 pub use names::Names;
 pub use options::Options;
-pub use reading::read_request;
 pub use request::{Record, Request, SimSafe};
 pub use table::Tool;
 pub use words::WordWhy;

@@ -1,7 +1,18 @@
-//! What words can ask for.
-use arrayvec::ArrayVec;
+//! What options ask for.
+ghost use Rattle.std.specs.Prelude.{◌≡◌, [], map, string_bytes, unwrap_or, IfOk};
+ghost use Rattle.std.specs.Option.{option_copied};
+ghost use Rattle.sim_opts.specs.Options.{said_in};
+ghost use Rattle.sim_opts.specs.Request.{needs_points, command_of, asked};
+ghost use Rattle.sim_opts.specs.Borrowed.{request_in};
 
-/// What the words of a command ask for. Its texts are the words themselves.
+use crate::asked::{clash, place_of};
+use crate::options::Options;
+use crate::table::Tool;
+use crate::words::WordWhy;
+use ss_base::{Name, OutOfMemory};
+use std::alloc::Global;
+
+/// What is asked for. Its texts are those of the options.
 #[derive(Debug, Drop)]
 pub enum Request<'a> {
     /// Run an object.
@@ -20,6 +31,15 @@ pub enum Request<'a> {
         /// The file that is read.
         object: &'a str,
     },
+    /// Nothing: the words are wrong at this place, counted from 0, or 2^32 - 1 where that is less.
+    Words {
+        /// The place.
+        at: u32,
+        /// The reason.
+        why: WordWhy,
+    },
+    /// Something that is not built.
+    NotBuilt,
 }
 
 /// A run of an object.
@@ -33,8 +53,7 @@ pub struct SimSafe<'a> {
     pub max_inst: u64,
     /// The file of the object.
     pub object: &'a str,
-    /// The arguments that the program finds, of which the object's name is the first. Their start
-    /// block has at most 16,384 bytes.
+    /// The arguments that the program finds, of which the object's name is the first.
     pub args: &'a [String],
 }
 
@@ -46,12 +65,114 @@ pub struct Record<'a> {
     /// The file that is the program's input, if any.
     pub input: Option<&'a str>,
     /// The files that the program can open.
-    pub files: ArrayVec<&'a str, 8>,
+    pub files: Vec<&'a str>,
     /// The most instructions that are done, at most 10^12.
     pub max_inst: u64,
     /// The file of the object.
     pub object: &'a str,
-    /// The arguments that the program finds, of which the object's name is the first. Their start
-    /// block has at most 16,384 bytes.
+    /// The arguments that the program finds, of which the object's name is the first.
     pub args: &'a [String],
+}
+
+/// The text of a name, if there is one.
+fn text_of(name: &Option<Name>) -> Option<&str>
+    ensures { option_copied result ≡ name.now }
+{
+    match name {
+        Some(name) => Some(name.as_str()),
+        None => None,
+    }
+}
+
+/// The text of a name, which is empty where there is none.
+fn text_or_empty(name: &Option<Name>) -> &str
+    ensures { result.now ≡ unwrap_or name.now [] }
+{
+    match name {
+        Some(name) => name.as_str(),
+        None => "",
+    }
+}
+
+/// The texts of names.
+fn texts_of(alloc: Global, names: &[String]) -> Result<Vec<&str>, OutOfMemory>
+    ensures { IfOk result (λ texts. map (λ text. text.now) texts.items ≡ map string_bytes names.now) }
+{
+    let mut texts = Vec::new(alloc);
+    for name in names {
+        texts.push(name.as_str())?;
+    }
+    Ok(texts)
+}
+
+/// Whether a run starts at a point, writes one, or skips instructions, which is not built.
+fn needs_points(o: &Options) -> bool
+    ensures { result ≡ needs_points (said_in o.now) }
+{
+    o.restart.is_some() || o.chkpt.is_some() || o.fastfwd > 0
+}
+
+impl Options {
+    /// A run of an object.
+    fn sim_safe(&self) -> Request<'_>
+        ensures { request_in result ≡ command_of Tool.SimSafe (said_in self.now) }
+    {
+        Request::SimSafe(SimSafe {
+            commits: text_of(&self.commits),
+            trace: text_of(&self.trace),
+            max_inst: self.max_inst,
+            object: self.object.as_str(),
+            args: self.args.as_slice(),
+        })
+    }
+
+    /// A run of an object whose calls are recorded.
+    fn recording(&self, alloc: Global) -> Result<Request<'_>, OutOfMemory>
+        ensures { IfOk result (λ r. request_in r ≡ command_of Tool.Record (said_in self.now)) }
+    {
+        let files = texts_of(alloc, self.files.as_slice())?;
+        Ok(Request::Record(Record {
+            out: text_or_empty(&self.out),
+            input: text_of(&self.input),
+            files,
+            max_inst: self.max_inst,
+            object: self.object.as_str(),
+            args: self.args.as_slice(),
+        }))
+    }
+
+    /// What the command is asked for.
+    fn command(&self, alloc: Global) -> Result<Request<'_>, OutOfMemory>
+        ensures { IfOk result (λ r. request_in r ≡ command_of self.now.tool (said_in self.now)) }
+    {
+        match self.tool {
+            Tool::SimSafe => Ok(self.sim_safe()),
+            Tool::Record => self.recording(alloc),
+            Tool::Asm => Ok(Request::Asm {
+                source: text_or_empty(&self.source),
+                object: self.object.as_str(),
+            }),
+            Tool::Dis => Ok(Request::Dis {
+                object: self.object.as_str(),
+            }),
+        }
+    }
+
+    /// What options ask for that so many words and their configuration say: where they clash, the words
+    /// are wrong at their end, and points are not built. It takes memory for the files of a recording.
+    #[tactic(auto, unfolding(crate::specs::Request::asked))]
+    pub fn request(&self, alloc: Global, words: usize) -> Result<Request<'_>, OutOfMemory>
+        ensures { IfOk result (λ r. request_in r ≡ asked words (said_in self.now)) }
+    {
+        if clash(self) {
+            return Ok(Request::Words {
+                at: place_of(words),
+                why: WordWhy::Clash,
+            });
+        }
+        if needs_points(self) {
+            return Ok(Request::NotBuilt);
+        }
+        self.command(alloc)
+    }
 }

@@ -1,24 +1,14 @@
 //! What one word can stand for.
-ghost use Rattle.std.specs.Prelude.{◌≡◌, ◌-◌, ◌^◌, map, min, string_bytes, option_copied};
+ghost use Rattle.std.specs.Prelude.{◌≡◌, ◌-◌, ◌^◌, map, min, string_bytes};
 ghost use Rattle.std.specs.Char.{is_ascii_digit};
 ghost use Rattle.std.specs.List.{list_all};
-ghost use Rattle.sim_opts.specs.Word.{is_operand, has_leading_zero, is_number, number_of, digits_of, begins_with_dash, start_block_length, fits_start_block, object_of};
+ghost use Rattle.sim_opts.specs.Word.{has_leading_zero, is_number, digits_of, begins_with_dash, start_block_length, fits_start_block};
 
 /// The most digits of a number.
 const MOST_DIGITS: usize = 13;
 
-/// The greatest number that a word may write.
-const MOST: u64 = 1_000_000_000_000;
-
 /// How many bytes a start block has at most.
 const LONGEST_BLOCK: u64 = 16384;
-
-/// Whether a word can stand for an object or a source: a name that does not begin with a dash.
-pub fn is_operand(word: &str) -> bool
-    ensures { result ≡ is_operand word.now }
-{
-    !word.is_empty() && word.as_bytes()[0] != b'-'
-}
 
 /// Whether a text of more than one byte begins with 0.
 fn has_leading_zero(text: &[u8]) -> bool
@@ -40,20 +30,6 @@ fn is_number(word: &str) -> bool
 {
     let text = word.as_bytes();
     !text.is_empty() && text.len() <= MOST_DIGITS && !has_leading_zero(text) && are_digits(text)
-}
-
-/// The number that a word writes, if it writes one of at most 10^12.
-#[tactic(auto, using(crate::proofs::Numbers::parse_number))]
-pub fn number_of(word: &str) -> Option<u64>
-    ensures { result ≡ number_of word.now }
-{
-    if !is_number(word) {
-        return None;
-    }
-    match word.parse::<u64>() {
-        Ok(value) if value <= MOST => Some(value),
-        _ => None,
-    }
 }
 
 /// The number that a word writes, if it writes one.
@@ -96,16 +72,4 @@ pub fn fits_start_block(args: &[String]) -> bool
     ensures { result ≡ fits_start_block (map string_bytes args.now) }
 {
     start_block_length(args) <= LONGEST_BLOCK
-}
-
-/// The object, which is the first of the arguments, if a program can be started with these.
-pub fn object_of(args: &[String]) -> Option<&str>
-    ensures { option_copied result ≡ object_of (map string_bytes args.now) }
-{
-    match args {
-        [object, ..] if is_operand(object.as_str()) && fits_start_block(args) => {
-            Some(object.as_str())
-        }
-        _ => None,
-    }
 }

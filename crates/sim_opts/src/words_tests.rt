@@ -125,7 +125,7 @@ const SAID: [(&str, &str); 15] = [
 ];
 
 /// Lines, their first wrong places, and the reasons.
-const REFUSED: [(&str, u32, WordWhy); 68] = [
+const REFUSED: [(&str, u32, WordWhy); 83] = [
     ("", 0, WordWhy::Command),
     ("simsafe p1", 0, WordWhy::Command),
     ("-commits c p1", 0, WordWhy::Command),
@@ -133,6 +133,7 @@ const REFUSED: [(&str, u32, WordWhy); 68] = [
     ("cheetah p1", 0, WordWhy::Command),
     ("dlite p1", 0, WordWhy::Command),
     ("--help", 0, WordWhy::Command),
+    ("sim-cache p1", 0, WordWhy::Command),
     ("SIM-SAFE p1", 0, WordWhy::Command),
     ("sim-safe -x p1", 1, WordWhy::Option),
     ("sim-safe - p1", 1, WordWhy::Option),
@@ -143,6 +144,10 @@ const REFUSED: [(&str, u32, WordWhy); 68] = [
     ("record -speed 3 p1", 1, WordWhy::Option),
     ("asm -x s o", 1, WordWhy::Option),
     ("dis -5", 1, WordWhy::Option),
+    ("dis -p1", 1, WordWhy::Option),
+    ("asm -s o", 1, WordWhy::Option),
+    ("sim-safe -p1", 1, WordWhy::Option),
+    ("sim-safe -commits c -p1", 3, WordWhy::Option),
     ("sim-safe -commits c -5 p1", 3, WordWhy::Option),
     ("sim-safe -ptrace t p1", 1, WordWhy::NotHere),
     ("sim-safe -o t p1", 1, WordWhy::NotHere),
@@ -165,6 +170,11 @@ const REFUSED: [(&str, u32, WordWhy); 68] = [
         17,
         WordWhy::Twice,
     ),
+    (
+        "record -o t -file a -file b -file c -file d -file e -file f -file g -file h -file i p1",
+        19,
+        WordWhy::Twice,
+    ),
     ("sim-safe -max:inst", 2, WordWhy::Missing),
     ("sim-safe -commits", 2, WordWhy::Missing),
     ("sim-safe -chkpt", 2, WordWhy::Missing),
@@ -174,6 +184,8 @@ const REFUSED: [(&str, u32, WordWhy); 68] = [
     ("record -in i p1 x y", 6, WordWhy::Missing),
     ("sim-safe -max:inst x p1", 2, WordWhy::Number),
     ("sim-safe -max:inst 00 p1", 2, WordWhy::Number),
+    ("sim-safe -max:inst 01 p1", 2, WordWhy::Number),
+    ("sim-safe -max:inst 10000000000000 p1", 2, WordWhy::Number),
     ("sim-safe -max:inst +1 p1", 2, WordWhy::Number),
     ("sim-safe -max:inst -1 p1", 2, WordWhy::Number),
     ("sim-safe -max:inst 1x p1", 2, WordWhy::Number),
@@ -184,6 +196,12 @@ const REFUSED: [(&str, u32, WordWhy); 68] = [
     ("sim-safe -fastfwd 9999999999999 p1", 2, WordWhy::Range),
     ("sim-safe -chkpt c 1000000000001 p1", 3, WordWhy::Range),
     ("sim-safe -commits  p1", 2, WordWhy::Form),
+    ("sim-safe -trace  p1", 2, WordWhy::Form),
+    ("record -o  p1", 2, WordWhy::Form),
+    ("record -o t -in  p1", 4, WordWhy::Form),
+    ("record -o t -file  p1", 4, WordWhy::Form),
+    ("record -o t -file a -file  p1", 6, WordWhy::Form),
+    ("dis ", 1, WordWhy::Form),
     ("sim-safe -chkpt  x p1", 2, WordWhy::Form),
     ("record -o  -o t p1", 2, WordWhy::Form),
     ("sim-safe ", 1, WordWhy::Form),
@@ -193,6 +211,7 @@ const REFUSED: [(&str, u32, WordWhy); 68] = [
     ("sim-safe", 1, WordWhy::NoObject),
     ("sim-safe -commits c", 3, WordWhy::NoObject),
     ("record", 1, WordWhy::NoObject),
+    ("record -o t", 3, WordWhy::NoObject),
     ("asm s", 2, WordWhy::NoObject),
     ("dis", 1, WordWhy::NoObject),
     ("sim-safe -restart q p1 x", 4, WordWhy::Extra),
@@ -213,6 +232,16 @@ fn all_are_refused(alloc: Global, rows: &[(&str, u32, WordWhy)]) -> bool {
 
 #[test]
 fn words_say_what_is_asked_or_where_they_are_wrong(rt: HostRuntime) {
-    let agree = all_say(rt.alloc(), &SAID) && all_are_refused(rt.alloc(), &REFUSED);
+    let nothing = match read_words(rt.alloc(), &[]) {
+        Ok(_) => false,
+        Err(fault) => {
+            fault
+                == WordFault::Bad {
+                    at: 0,
+                    why: WordWhy::NoCommand,
+                }
+        }
+    };
+    let agree = nothing && all_say(rt.alloc(), &SAID) && all_are_refused(rt.alloc(), &REFUSED);
     assert!(rt; agree);
 }
