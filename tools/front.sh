@@ -69,7 +69,7 @@ meaning_of_budget() {
 likely_file() {
     command=${1-}
     [ $# -eq 0 ] || shift
-    wrong_object= wrong_read= wrong_write=
+    wrong_config= wrong_object= wrong_read= wrong_write=
     case $command in
         asm)
             wrong_object=$(why_unread "${1-}")
@@ -77,16 +77,20 @@ likely_file() {
         dis) wrong_object=$(why_unread "${1-}") ;;
         sim-safe | record) look_at_run "$@" ;;
     esac
-    printf '%s' "${wrong_object:-${wrong_read:-$wrong_write}}" | tr '[:cntrl:]' '?'
+    printf '%s' "${wrong_config:-${wrong_object:-${wrong_read:-$wrong_write}}}" | tr '[:cntrl:]' '?'
 }
 
 # Looks at the files in the words of a run: those of options, and the object behind them.
 look_at_run() {
     while [ $# -gt 1 ]; do
         case $1 in
+            -config) wrong_config=$(why_unread "$2") ;;
             -commits | -o) wrong_write=${wrong_write:-$(why_unwritten "$2")} ;;
             -trace | -in | -file) wrong_read=${wrong_read:-$(why_unread "$2")} ;;
-            -max:inst) ;;
+            -max:inst | -fastfwd | -restart) ;;
+            -chkpt)
+                [ $# -gt 2 ] || break
+                shift ;;
             *) break ;;
         esac
         shift 2

@@ -14,6 +14,7 @@ fn stop_words(alloc: Global, end: RunEnd, pc: u32, icnt: u64) -> Result<String, 
 /// The words of an ending that is that of no run.
 fn other_words(alloc: Global, ending: &Ending) -> Result<String, LineFault> {
     let words = match ending {
+        Ending::Words { at, why } => format!(in alloc; "words {at} {why:?}"),
         Ending::Object { at, why } => format!(in alloc; "object {at} {why:?}"),
         Ending::Trace { at, why } => format!(in alloc; "trace {at} {why:?}"),
         Ending::Text { line, why } => format!(in alloc; "text {line} {why:?}"),

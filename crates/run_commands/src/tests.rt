@@ -2,7 +2,7 @@
 use crate::*;
 use answers::Answer;
 use journal::Borrowed;
-use sim_opts::{Request, read_request};
+use sim_opts::{Request, read_words};
 use ss_base::{MemShelf, MemSink};
 use std::alloc::Global;
 use std::test::Fail;
@@ -47,9 +47,12 @@ fn leaves(alloc: Global, words: &[&str], file: &str, bytes: &[u8]) -> Result<boo
         prog: &mut prog,
         stat: &mut stat,
     };
-    let answer = match read_request(&owned) {
-        Some(Request::SimSafe(request)) => sim_safe(alloc, request, &mut outside),
-        Some(Request::Record(request)) => record(alloc, request, &mut outside),
+    let Ok(options) = read_words(alloc, &owned) else {
+        return Ok(false);
+    };
+    let answer = match options.request(alloc, owned.len()) {
+        Ok(Request::SimSafe(request)) => sim_safe(alloc, request, &mut outside),
+        Ok(Request::Record(request)) => record(alloc, request, &mut outside),
         _ => return Ok(false),
     };
     let exited = matches!(answer, Ok(Answer::Exited { code: 7 }));

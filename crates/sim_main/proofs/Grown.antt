@@ -22,6 +22,7 @@ tells_growth before now ending.SinkFault h =
 tells_growth before now ending.OutOfMemory h = none_grew before now ending.OutOfMemory h
 tells_growth before now (ending.Exited code) h = none_grew before now (ending.Exited code) h
 tells_growth before now ending.Made h = none_grew before now ending.Made h
+tells_growth before now (ending.Words at why) h = none_grew before now (ending.Words at why) h
 tells_growth before now (ending.Text line why) h = none_grew before now (ending.Text line why) h
 tells_growth before now (ending.Object at why) h = none_grew before now (ending.Object at why) h
 tells_growth before now (ending.Trace at why) h = none_grew before now (ending.Trace at why) h

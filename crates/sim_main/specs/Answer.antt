@@ -1,5 +1,5 @@
 -- What the top call answers and leaves: one relation, and the facts that follow from it.
-use Rattle.std.specs.Prelude.{◌≡◌, ◌⊎◌, ◌<◌, ℕ, List, Option, Some, None, Result}
+use Rattle.std.specs.Prelude.{◌≡◌, ◌⊎◌, ◌<◌, ℕ, List, true, Result, Ok}
 use Rattle.ss_base.specs.Outside.{Files, SameFiles}
 use Rattle.journal.specs.declared.fault.Fault.{Fault}
 use Rattle.journal.specs.declared.loading.Found.{Found}
@@ -8,26 +8,64 @@ use Rattle.journal.specs.View.{View, Risen}
 use Rattle.journal.specs.Load.{AreFound}
 use Rattle.journal.specs.Outcome.{Outcome, Comes}
 use Rattle.journal.specs.Texts.{FileFronts}
-use Rattle.journal.specs.Clauses.{IfAnswered}
+use Rattle.journal.specs.Clauses.{EndsBy, IfAnswered}
 use Rattle.answers.specs.declared.answer.Answer.{Answer}
-use Rattle.answers.specs.Sound.{NamesLong}
+use Rattle.answers.specs.declared.answer.Answer.TheVariants as answer
+use Rattle.answers.specs.declared.answer.Unbuilt.TheVariants as unbuilt
+use Rattle.answers.specs.Sound.{NamesLong, IsBuilt, names_of}
 use Rattle.run_commands.specs.Outcome.{SimSafeOutcome, RecordOutcome}
 use Rattle.run_commands.specs.Far.{CameToLimit}
-use Rattle.object_commands.specs.Outcome.{AsmOutcome, DisOutcome}
-use Rattle.sim_opts.specs.Request.{Request, SimSafe, Record, Asm, Dis}
+use Rattle.sim_opts.specs.Words.{is_unbuilt}
+use Rattle.sim_opts.specs.Request.{SimSafe, Record, Asm, Dis, Words, Text, NotBuilt, config_of}
 use Rattle.sim_main.specs.declared.ending.Ending.{Ending}
 use Rattle.sim_main.specs.declared.ending.Ending.TheVariants as ending
 use Rattle.sim_main.specs.Ending.{ending_of, answer_of}
-use Rattle.sim_main.specs.Outcome.{inputs_of, not_built, ComesBy}
+use Rattle.sim_main.specs.Outcome.{Asked, Asks, LongConfig, config_inputs, asked_with, inputs_for, HasOutcome, ComesFor, behind_config, asked_in, inputs_in}
 
 -- ---- the one relation
 
--- an ending is that of what a request came to: it loaded its files, and then wrote the outcome of what was
--- found in them, from its first write to its last, or up to the write at which a fault ended it
-pub record CameBy {O : Type 0} (v : View O) (a : O) (request : Option Request) (b : O) (e : Ending) : Type 0 where
+-- words came to an answer or a fault: their configuration was looked for, if they name one, and with what was
+-- found of it they loaded the files of what they ask for, and then wrote the outcome of what was found in these
+pub record ComesByWords {O : Type 0} (v : View O) (a : O) (words : List (List ℕ)) (b : O) (came : Result Answer Fault) : Type 0 where
+  pub config : List Found
+  pub are : AreFound (v.tells a) (v.files a) (config_inputs words) config
+  pub comes : Comes v a (inputs_for words (asked_with words config)) (ComesFor words (asked_with words config) came) b came
+
+-- an ending is that of what words came to: from its first write to its last, or up to the write at which a fault
+-- ended it
+pub record CameBy {O : Type 0} (v : View O) (a : O) (words : List (List ℕ)) (b : O) (e : Ending) : Type 0 where
   pub came : Result Answer Fault
   pub ending : e ≡ ending_of came
-  pub comes : Comes v a (inputs_of request) (ComesBy request came) b came
+  pub comes : ComesByWords v a words b came
+
+-- ---- what is answered, whatever the files tell
+
+-- an answer is an outcome of something that is found in the files, of which a fact holds
+pub record AnswersBy (Told : Type 0) (files : Files) (words : List (List ℕ)) (a : Answer) (Holds : Outcome Answer → Type 0) : Type 0 where
+  pub config : List Found
+  pub are : AreFound Told files (config_inputs words) config
+  pub ends : EndsBy Told files (inputs_for words (asked_with words config)) (ComesFor words (asked_with words config) (Ok a)) a Holds
+
+-- an answer refuses words or their configuration, or tells that something isn't built, exactly where they ask for
+-- nothing else
+abbrev pub Tells : Asked → Answer → Type 0
+Tells (Asks (SimSafe commits trace max_inst object args)) a = IsBuilt a
+Tells (Asks (Record out given files max_inst object args)) a = IsBuilt a
+Tells (Asks (Asm source object)) a = IsBuilt a
+Tells (Asks (Dis object)) a = IsBuilt a
+Tells (Asks (Words place reason)) a = a ≡ answer.Words place reason
+Tells (Asks (Text line reason)) a = a ≡ answer.Text line reason
+Tells (Asks NotBuilt) a = a ≡ answer.NotBuilt unbuilt.Words
+Tells (LongConfig name) a = a ≡ answer.TooLong name
+
+-- a first word that names a command that isn't built decides alone; else an answer goes by what words ask for with
+-- what was found of their configuration, and a file that is too long is one that the words or the configuration name
+pub record EndsByWords (Told : Type 0) (files : Files) (words : List (List ℕ)) (e : Ending) : Type 0 where
+  pub unbuilt_first : is_unbuilt words ≡ true → e ≡ ending.NotBuilt unbuilt.Words
+  pub config : List Found
+  pub are : AreFound Told files (config_inputs words) config
+  pub tells : IfAnswered (answer_of e) (Tells (asked_with words config))
+  pub long : IfAnswered (answer_of e) (NamesLong (names_of (inputs_for words (asked_with words config))))
 
 -- ---- how far a command came that gave up
 
@@ -40,22 +78,25 @@ pub record CameToFront (Has : Outcome Answer → Type 0) (old new : Files) (befo
   pub output : GotFront before (output_of outcome.writes) now
 
 -- of a run, one number of instructions says how far files and output came
-abbrev pub CameFar : Option Request → List Found → Files → Files → List ℕ → List ℕ → Type 0
-CameFar None found old new before now = CameToFront (λ o. o ≡ not_built) old new before now
-CameFar (Some (SimSafe commits trace max_inst object args)) found old new before now = CameToLimit (λ limit o. SimSafeOutcome commits trace limit object args found o) max_inst old new before now
-CameFar (Some (Record out given files max_inst object args)) found old new before now = CameToLimit (λ limit o. RecordOutcome out given files limit object args found o) max_inst old new before now
-CameFar (Some (Asm source object)) found old new before now = CameToFront (λ o. AsmOutcome source object found o) old new before now
-CameFar (Some (Dis object)) found old new before now = CameToFront (λ o. DisOutcome object found o) old new before now
+abbrev pub CameFar : Asked → List Found → Files → Files → List ℕ → List ℕ → Type 0
+CameFar (Asks (SimSafe commits trace max_inst object args)) found old new before now = CameToLimit (λ limit o. SimSafeOutcome commits trace limit object args found o) max_inst old new before now
+CameFar (Asks (Record out given files max_inst object args)) found old new before now = CameToLimit (λ limit o. RecordOutcome out given files limit object args found o) max_inst old new before now
+CameFar (Asks (Asm source object)) found old new before now = CameToFront (HasOutcome (Asks (Asm source object)) found) old new before now
+CameFar (Asks (Dis object)) found old new before now = CameToFront (HasOutcome (Asks (Dis object)) found) old new before now
+CameFar (Asks (Words place reason)) found old new before now = CameToFront (HasOutcome (Asks (Words place reason)) found) old new before now
+CameFar (Asks (Text line reason)) found old new before now = CameToFront (HasOutcome (Asks (Text line reason)) found) old new before now
+CameFar (Asks NotBuilt) found old new before now = CameToFront (HasOutcome (Asks NotBuilt) found) old new before now
+CameFar (LongConfig name) found old new before now = CameToFront (HasOutcome (LongConfig name) found) old new before now
 
 -- what was found in told files, and how far the command came with it
-pub record CameTo (request : Option Request) (old new : Files) (before now : List ℕ) : Type 0 where
+pub record CameTo (words : List (List ℕ)) (old new : Files) (before now : List ℕ) : Type 0 where
   pub found : List Found
-  pub are : AreFound (Unit {0}) old (inputs_of request) found
-  pub far : CameFar request found old new before now
+  pub are : AreFound (Unit {0}) old (inputs_in words old) found
+  pub far : CameFar (asked_in words old) (behind_config (config_of words) found) old new before now
 
 -- it left all files and the first stream as they were, or came so far
-abbrev pub ComesAsFar : Option Request → Files → Files → List ℕ → List ℕ → Type 0
-ComesAsFar request old new before now = (SameFiles old new × (now ≡ before)) ⊎ CameTo request old new before now
+abbrev pub ComesAsFar : List (List ℕ) → Files → Files → List ℕ → List ℕ → Type 0
+ComesAsFar words old new before now = (SameFiles old new × (now ≡ before)) ⊎ CameTo words old new before now
 
 -- ---- counts of faults
 
@@ -66,6 +107,7 @@ Counts before now ending.SinkFault = (now.0 ≡ before.0) × ((Risen before.1 no
 Counts before now ending.OutOfMemory = now ≡ before
 Counts before now (ending.Exited code) = now ≡ before
 Counts before now ending.Made = now ≡ before
+Counts before now (ending.Words at why) = now ≡ before
 Counts before now (ending.Text line why) = now ≡ before
 Counts before now (ending.Object at why) = now ≡ before
 Counts before now (ending.Trace at why) = now ≡ before
@@ -83,7 +125,7 @@ pub record TellsGrowth (before now : ℕ × ℕ × ℕ) (e : Ending) : Type 0 wh
 -- ---- streams that are left alone
 
 -- nothing is put on the second stream after a fault of the shelf or of the first stream and where a command
--- made an object or a listing, and nothing on the first where a file is refused; the numbers are the counts of
+-- made an object or a listing, and nothing on the first where words or a file are refused; the numbers are the counts of
 -- faults of the first stream
 abbrev pub Quiet : {P R : Type 0} → (before now : ℕ) → P → P → R → R → Ending → Type 0
 Quiet before now prog prog_now stat stat_now ending.ShelfFault = stat_now ≡ stat
@@ -91,6 +133,7 @@ Quiet before now prog prog_now stat stat_now ending.SinkFault = before < now →
 Quiet before now prog prog_now stat stat_now ending.OutOfMemory = Unit {0}
 Quiet before now prog prog_now stat stat_now (ending.Exited code) = Unit {0}
 Quiet before now prog prog_now stat stat_now ending.Made = stat_now ≡ stat
+Quiet before now prog prog_now stat stat_now (ending.Words at why) = prog_now ≡ prog
 Quiet before now prog prog_now stat stat_now (ending.Text line why) = prog_now ≡ prog
 Quiet before now prog prog_now stat stat_now (ending.Object at why) = prog_now ≡ prog
 Quiet before now prog prog_now stat stat_now (ending.Trace at why) = prog_now ≡ prog
@@ -98,9 +141,3 @@ Quiet before now prog prog_now stat stat_now (ending.Stopped why pc icnt) = Unit
 Quiet before now prog prog_now stat stat_now ending.Budget = Unit {0}
 Quiet before now prog prog_now stat stat_now (ending.TooLong name) = prog_now ≡ prog
 Quiet before now prog prog_now stat stat_now (ending.NotBuilt what) = (prog_now ≡ prog) × (stat_now ≡ stat)
-
--- ---- names
-
--- a file that is too long is one of these
-abbrev pub EndingNames : List (List ℕ) → Ending → Type 0
-EndingNames names e = IfAnswered (answer_of e) (NamesLong names)

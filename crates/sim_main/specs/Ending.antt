@@ -11,6 +11,7 @@ use Rattle.sim_main.specs.declared.ending.Ending.TheVariants as ending
 abbrev pub status_of : Ending → ℕ
 status_of (ending.Exited code) = 0
 status_of ending.Made = 0
+status_of (ending.Words at why) = 1
 status_of (ending.Object at why) = 2
 status_of (ending.Trace at why) = 3
 status_of ending.ShelfFault = 5
@@ -26,6 +27,7 @@ status_of (ending.NotBuilt what) = 12
 abbrev pub is_fault : Ending → Bool
 is_fault (ending.Exited code) = false
 is_fault ending.Made = false
+is_fault (ending.Words at why) = false
 is_fault (ending.Object at why) = false
 is_fault (ending.Trace at why) = false
 is_fault ending.ShelfFault = true
@@ -41,6 +43,7 @@ is_fault (ending.NotBuilt what) = false
 abbrev pub answer_ending : Answer → Ending
 answer_ending (answer.Exited code) = ending.Exited code
 answer_ending answer.Made = ending.Made
+answer_ending (answer.Words at why) = ending.Words at why
 answer_ending (answer.Object at why) = ending.Object at why
 answer_ending (answer.Trace at why) = ending.Trace at why
 answer_ending (answer.Stopped why pc icnt) = ending.Stopped why pc icnt
@@ -65,6 +68,7 @@ ending_of (Err f) = fault_ending f
 abbrev pub answer_of : Ending → Option Answer
 answer_of (ending.Exited code) = Some (answer.Exited code)
 answer_of ending.Made = Some answer.Made
+answer_of (ending.Words at why) = Some (answer.Words at why)
 answer_of (ending.Object at why) = Some (answer.Object at why)
 answer_of (ending.Trace at why) = Some (answer.Trace at why)
 answer_of (ending.Stopped why pc icnt) = Some (answer.Stopped why pc icnt)

@@ -1,32 +1,35 @@
 -- Laws from what a command comes to, to each fact of its ending.
-use Rattle.std.specs.Prelude.{◌≡◌, ◌≢◌, ◌<◌, ◌++◌, ℕ, Bool, true, false, Option, Some, None, Result, Ok, Err}
-use Rattle.std.proofs.Common.{refl, sym, ap, ◌∙◌, subst, inl, inr, arith}
+use Rattle.std.specs.Prelude.{◌≡◌, ◌≢◌, ◌<◌, ◌++◌, ℕ, List, [], ◌∷◌, map, Bool, true, false, Option, Some, None, Result, Ok, Err}
+use Rattle.std.proofs.Common.{refl, sym, ap, subst, inl, inr, arith}
 use Rattle.journal.specs.declared.fault.Fault.{Fault}
 use Rattle.journal.specs.declared.fault.Fault.TheVariants as fault
 use Rattle.journal.specs.Write.{Journal, output_of, report_of, Lacks}
-use Rattle.journal.specs.View.{View, counts}
-use Rattle.journal.specs.Load.{AreHeld}
-use Rattle.journal.specs.Outcome.{Comes}
+use Rattle.journal.specs.View.{View, counts, Stays}
+use Rattle.journal.specs.declared.loading.Found.{Found}
+use Rattle.journal.specs.Load.{Input, AreFound, AreHeld}
+use Rattle.journal.specs.Outcome.{Outcome, Comes}
 use Rattle.journal.specs.Texts.{WholeFiles}
-use Rattle.journal.specs.Loading.{comes_map}
-use Rattle.journal.specs.Clauses.{answer_in, OutcomeWith, EndsBy, IfAnswered}
-use Rattle.journal.specs.ClauseLaws.{CountsBy, counts_by, leaves_files, memory, last, succeeds, quiet, quiet_prog, quiet_stat, ends_by, prog_succeeds, stat_succeeds}
+use Rattle.journal.specs.Loading.{is_found_after, are_there, are_found_once, found_in, comes_map}
+use Rattle.journal.specs.Clauses.{answer_in, OutcomeWith, IfAnswered}
+use Rattle.journal.specs.ClauseLaws.{CountsBy, counts_by, leaves_files, memory, last, succeeds, quiet, quiet_prog, quiet_stat, ends_by, stays, prog_succeeds, stat_succeeds}
 use Rattle.answers.specs.declared.answer.Answer.{Answer}
 use Rattle.answers.specs.declared.answer.Answer.TheVariants as answer
 use Rattle.answers.specs.declared.answer.Unbuilt.TheVariants as unbuilt
 use Rattle.answers.specs.Sound.{NamesLong, names_of}
-use Rattle.sim_opts.specs.Request.{Request}
+use Rattle.ss_base.specs.Outside.{Files}
+use Rattle.sim_opts.specs.Words.{is_unbuilt}
 use Rattle.sim_main.specs.declared.ending.Ending.TheVariants as ending
 use Rattle.sim_main.specs.Ending.{answer_ending, fault_ending, ending_of, answer_of, is_fault}
-use Rattle.sim_main.specs.Outcome.{inputs_of, HasOutcome, ComesBy, IsUnbuilt}
-use Rattle.sim_main.specs.Answer.{Counts, Quiet}
-use Rattle.sim_main.specs.OutcomeLaws.{comes_has, starts_files, reports_last, quiet_with, names_with, unbuilt_words}
+use Rattle.sim_main.specs.Outcome.{Asked, config_inputs, asked_with, inputs_for, OutcomeFor, ComesFor, asked_in, inputs_in, OutcomeIn, ComesIn}
+use Rattle.sim_main.specs.Answer.{ComesByWords, AnswersBy, Tells, EndsByWords, Counts, Quiet}
+use Rattle.sim_main.specs.OutcomeLaws.{comes_has, starts_files, reports_last, quiet_with, tells_with, asked_named, names_with}
 
 -- ---- endings
 
 pub told_answer : (a : Answer) → answer_of (answer_ending a) ≡ Some a
 told_answer (answer.Exited code) = refl
 told_answer answer.Made = refl
+told_answer (answer.Words at why) = refl
 told_answer (answer.Object at why) = refl
 told_answer (answer.Trace at why) = refl
 told_answer (answer.Stopped why pc icnt) = refl
@@ -49,6 +52,7 @@ answer_told (Err f) = told_fault f
 fault_answer : (a : Answer) → is_fault (answer_ending a) ≡ false
 fault_answer (answer.Exited code) = refl
 fault_answer answer.Made = refl
+fault_answer (answer.Words at why) = refl
 fault_answer (answer.Object at why) = refl
 fault_answer (answer.Trace at why) = refl
 fault_answer (answer.Stopped why pc icnt) = refl
@@ -80,6 +84,7 @@ answer_no_memory a e = not_both (is_fault (answer_ending a)) (fault_answer a) (a
 answer_counts : (before now : ℕ × ℕ × ℕ) (a : Answer) → now ≡ before → Counts before now (answer_ending a)
 answer_counts before now (answer.Exited code) h = h
 answer_counts before now answer.Made h = h
+answer_counts before now (answer.Words at why) h = h
 answer_counts before now (answer.Object at why) h = h
 answer_counts before now (answer.Trace at why) h = h
 answer_counts before now (answer.Stopped why pc icnt) h = h
@@ -106,102 +111,155 @@ stat_grown before now (Err fault.Prog) h g = absurd (not_grown before.2 now.2 h.
 stat_grown before now (Err fault.Stat) h g = refl
 stat_grown before now (Err fault.OutOfMemory) h g = absurd (not_grown before.2 now.2 (ap (λ (x : ℕ × ℕ × ℕ). x.2) h) g)
 
--- ---- what a request came to
+-- ---- what words came to
 
--- it came to its outcome, whether or not it is replayed
-pub plain : {O : Type 0} (v : View O) (a b : O) (request : Option Request) (came : Result Answer Fault) → Comes v a (inputs_of request) (ComesBy request came) b came → Comes v a (inputs_of request) (HasOutcome request) b came
-plain v a b request came p = comes_map v a (inputs_of request) b (ComesBy request came) (HasOutcome request) came (comes_has request came) p
+-- it came to an outcome, whether or not it is replayed
+plain : {O : Type 0} (v : View O) (a b : O) (words : List (List ℕ)) (asked : Asked) (came : Result Answer Fault) → Comes v a (inputs_for words asked) (ComesFor words asked came) b came → Comes v a (inputs_for words asked) (OutcomeFor words asked) b came
+plain v a b words asked came p = comes_map v a (inputs_for words asked) b (ComesFor words asked came) (OutcomeFor words asked) came (λ fs o h. comes_has asked came _ o h) p
 
-pub memory_by : {O : Type 0} (v : View O) (a b : O) (request : Option Request) (came : Result Answer Fault)
-    → v.stat.tells a → ending_of came ≡ ending.OutOfMemory → Comes v a (inputs_of request) (HasOutcome request) b came → v.stat.contents b ≡ v.stat.contents a
-memory_by v a b request (Ok x) t e p = absurd (answer_no_memory x e)
-memory_by v a b request (Err fault.Shelf) t e p = cc
-memory_by v a b request (Err fault.Prog) t e p = cc
-memory_by v a b request (Err fault.Stat) t e p = cc
-memory_by v a b request (Err fault.OutOfMemory) t e p = memory v a b (inputs_of request) (HasOutcome request) (reports_last request) t p
+pub plainly : {O : Type 0} (v : View O) (a b : O) (words : List (List ℕ)) (came : Result Answer Fault) (p : ComesByWords v a words b came) → Comes v a (inputs_for words (asked_with words p.config)) (OutcomeFor words (asked_with words p.config)) b came
+plainly v a b words came p = plain v a b words (asked_with words p.config) came p.comes
 
-pub last_by : {O : Type 0} (v : View O) (a b : O) (request : Option Request) (came : Result Answer Fault) → v.tells a → v.stat.faults a < v.stat.faults b → Comes v a (inputs_of request) (HasOutcome request) b came
-    → OutcomeWith (v.files a) (inputs_of request) (HasOutcome request) (λ o. WholeFiles o.writes (v.files a) (v.files b) × (v.prog.tells a → v.prog.contents b ≡ v.prog.contents a ++ output_of o.writes))
-last_by v a b request came t g p =
-    last v a b (inputs_of request) (HasOutcome request) (starts_files request) (reports_last request) t
-    (subst (λ x. Comes v a (inputs_of request) (HasOutcome request) b x) (stat_grown (counts v a) (counts v b) came (counts_by v a b (inputs_of request) (HasOutcome request) came p) g) p)
+-- ---- where files are told
+
+are_found_told : (Told : Type 0) (files : Files) (is : List Input) (fs : List Found) → Told → AreFound Told files is fs → AreFound (Unit {0}) files is fs
+are_found_told Told files [] [] t h = tt
+are_found_told Told files [] (f ∷ fs) t h = h
+are_found_told Told files (i ∷ is) [] t h = h
+are_found_told Told files (i ∷ is) (f ∷ fs) t h = (is_found_after (Unit {0}) Told files files i f (λ _. t) (λ _. refl) h.0, are_found_told Told files is fs t h.1)
+
+-- told files have one configuration
+config_told : {O : Type 0} (v : View O) (a b : O) (words : List (List ℕ)) (came : Result Answer Fault) (p : ComesByWords v a words b came) → v.tells a → p.config ≡ map (found_in (v.files a)) (config_inputs words)
+config_told v a b words came p t =
+    are_found_once (v.files a) (config_inputs words) p.config (map (found_in (v.files a)) (config_inputs words))
+    (are_found_told (v.tells a) (v.files a) (config_inputs words) p.config t p.are) (are_there (Unit {0}) (v.files a) (config_inputs words))
+
+pub comes_in : {O : Type 0} (v : View O) (a b : O) (words : List (List ℕ)) (came : Result Answer Fault) → ComesByWords v a words b came → v.tells a → Comes v a (inputs_in words (v.files a)) (ComesIn words (v.files a) came) b came
+comes_in v a b words came p t =
+    subst (λ (config : List Found). Comes v a (inputs_for words (asked_with words config)) (ComesFor words (asked_with words config) came) b came)
+    (config_told v a b words came p t) p.comes
+
+pub plainly_in : {O : Type 0} (v : View O) (a b : O) (words : List (List ℕ)) (came : Result Answer Fault) → ComesByWords v a words b came → v.tells a → Comes v a (inputs_in words (v.files a)) (OutcomeIn words (v.files a)) b came
+plainly_in v a b words came p t = plain v a b words (asked_in words (v.files a)) came (comes_in v a b words came p t)
+
+-- ---- want of memory, and a failing second stream
+
+memory_of : {O : Type 0} (v : View O) (a b : O) (words : List (List ℕ)) (asked : Asked) (came : Result Answer Fault)
+    → v.stat.tells a → ending_of came ≡ ending.OutOfMemory → Comes v a (inputs_for words asked) (OutcomeFor words asked) b came → v.stat.contents b ≡ v.stat.contents a
+memory_of v a b words asked (Ok x) t e p = absurd (answer_no_memory x e)
+memory_of v a b words asked (Err fault.Shelf) t e p = cc
+memory_of v a b words asked (Err fault.Prog) t e p = cc
+memory_of v a b words asked (Err fault.Stat) t e p = cc
+memory_of v a b words asked (Err fault.OutOfMemory) t e p = memory v a b (inputs_for words asked) (OutcomeFor words asked) (reports_last words asked) t p
+
+pub memory_by : {O : Type 0} (v : View O) (a b : O) (words : List (List ℕ)) (came : Result Answer Fault) → v.stat.tells a → ending_of came ≡ ending.OutOfMemory → ComesByWords v a words b came → v.stat.contents b ≡ v.stat.contents a
+memory_by v a b words came t e p = memory_of v a b words (asked_with words p.config) came t e (plainly v a b words came p)
+
+pub counts_words : {O : Type 0} (v : View O) (a b : O) (words : List (List ℕ)) (came : Result Answer Fault) → ComesByWords v a words b came → CountsBy (counts v a) (counts v b) came
+counts_words v a b words came p = counts_by v a b (inputs_for words (asked_with words p.config)) (ComesFor words (asked_with words p.config) came) came p.comes
+
+pub stays_words : {O : Type 0} (v : View O) (a b : O) (words : List (List ℕ)) (came : Result Answer Fault) → ComesByWords v a words b came → Stays v a b
+stays_words v a b words came p = stays v a b (inputs_for words (asked_with words p.config)) (ComesFor words (asked_with words p.config) came) came p.comes
+
+pub last_by : {O : Type 0} (v : View O) (a b : O) (words : List (List ℕ)) (came : Result Answer Fault) → v.tells a → v.stat.faults a < v.stat.faults b → ComesByWords v a words b came
+    → OutcomeWith (v.files a) (inputs_in words (v.files a)) (OutcomeIn words (v.files a)) (λ o. WholeFiles o.writes (v.files a) (v.files b) × (v.prog.tells a → v.prog.contents b ≡ v.prog.contents a ++ output_of o.writes))
+last_by v a b words came t g p =
+    let inputs = inputs_in words (v.files a) in
+    let Has : List Found → Outcome Answer → Type 0 = OutcomeIn words (v.files a) in
+    last v a b inputs Has (starts_files words (asked_in words (v.files a))) (reports_last words (asked_in words (v.files a))) t
+    (subst (λ x. Comes v a inputs Has b x) (stat_grown (counts v a) (counts v b) came (counts_words v a b words came p) g) (plainly_in v a b words came p t))
 
 -- ---- quiet streams
 
-answer_quiet : {O : Type 0} (v : View O) (a b : O) (request : Option Request) (x : Answer) → Comes v a (inputs_of request) (HasOutcome request) b (Ok x)
+answer_quiet : {O : Type 0} (v : View O) (a b : O) (words : List (List ℕ)) (asked : Asked) (x : Answer) → Comes v a (inputs_for words asked) (OutcomeFor words asked) b (Ok x)
     → Quiet (v.prog.faults a) (v.prog.faults b) (v.prog.sink a) (v.prog.sink b) (v.stat.sink a) (v.stat.sink b) (answer_ending x)
-answer_quiet v a b request (answer.Exited code) p = tt
-answer_quiet v a b request answer.Made p = quiet_stat v a b (inputs_of request) (HasOutcome request) answer.Made (quiet_with request answer.Made) p
-answer_quiet v a b request (answer.Object at why) p = quiet_prog v a b (inputs_of request) (HasOutcome request) (answer.Object at why) (quiet_with request (answer.Object at why)) p
-answer_quiet v a b request (answer.Trace at why) p = quiet_prog v a b (inputs_of request) (HasOutcome request) (answer.Trace at why) (quiet_with request (answer.Trace at why)) p
-answer_quiet v a b request (answer.Stopped why pc icnt) p = tt
-answer_quiet v a b request answer.Budget p = tt
-answer_quiet v a b request (answer.Text line why) p = quiet_prog v a b (inputs_of request) (HasOutcome request) (answer.Text line why) (quiet_with request (answer.Text line why)) p
-answer_quiet v a b request (answer.TooLong name) p = quiet_prog v a b (inputs_of request) (HasOutcome request) (answer.TooLong name) (quiet_with request (answer.TooLong name)) p
-answer_quiet v a b request (answer.NotBuilt what) p =
-    let none = quiet_with request (answer.NotBuilt what) in (
-      quiet_prog v a b (inputs_of request) (HasOutcome request) (answer.NotBuilt what) (λ fs o h e. subst (λ (l : Journal). Lacks fault.Prog l) (sym (none fs o h e)) tt) p,
-      quiet_stat v a b (inputs_of request) (HasOutcome request) (answer.NotBuilt what) (λ fs o h e. subst (λ (l : Journal). Lacks fault.Stat l) (sym (none fs o h e)) tt) p,
+answer_quiet v a b words asked (answer.Exited code) p = tt
+answer_quiet v a b words asked answer.Made p = quiet_stat v a b (inputs_for words asked) (OutcomeFor words asked) answer.Made (quiet_with words asked answer.Made) p
+answer_quiet v a b words asked (answer.Words at why) p = quiet_prog v a b (inputs_for words asked) (OutcomeFor words asked) (answer.Words at why) (quiet_with words asked (answer.Words at why)) p
+answer_quiet v a b words asked (answer.Object at why) p = quiet_prog v a b (inputs_for words asked) (OutcomeFor words asked) (answer.Object at why) (quiet_with words asked (answer.Object at why)) p
+answer_quiet v a b words asked (answer.Trace at why) p = quiet_prog v a b (inputs_for words asked) (OutcomeFor words asked) (answer.Trace at why) (quiet_with words asked (answer.Trace at why)) p
+answer_quiet v a b words asked (answer.Stopped why pc icnt) p = tt
+answer_quiet v a b words asked answer.Budget p = tt
+answer_quiet v a b words asked (answer.Text line why) p = quiet_prog v a b (inputs_for words asked) (OutcomeFor words asked) (answer.Text line why) (quiet_with words asked (answer.Text line why)) p
+answer_quiet v a b words asked (answer.TooLong name) p = quiet_prog v a b (inputs_for words asked) (OutcomeFor words asked) (answer.TooLong name) (quiet_with words asked (answer.TooLong name)) p
+answer_quiet v a b words asked (answer.NotBuilt what) p =
+    let none = quiet_with words asked (answer.NotBuilt what) in (
+      quiet_prog v a b (inputs_for words asked) (OutcomeFor words asked) (answer.NotBuilt what) (λ fs o h e. subst (λ (l : Journal). Lacks fault.Prog l) (sym (none fs o h e)) tt) p,
+      quiet_stat v a b (inputs_for words asked) (OutcomeFor words asked) (answer.NotBuilt what) (λ fs o h e. subst (λ (l : Journal). Lacks fault.Stat l) (sym (none fs o h e)) tt) p,
     )
 
-pub quiet_by : {O : Type 0} (v : View O) (a b : O) (request : Option Request) (came : Result Answer Fault) → Comes v a (inputs_of request) (HasOutcome request) b came
+quiet_of : {O : Type 0} (v : View O) (a b : O) (words : List (List ℕ)) (asked : Asked) (came : Result Answer Fault) → Comes v a (inputs_for words asked) (OutcomeFor words asked) b came
     → Quiet (v.prog.faults a) (v.prog.faults b) (v.prog.sink a) (v.prog.sink b) (v.stat.sink a) (v.stat.sink b) (ending_of came)
-quiet_by v a b request (Ok x) p = answer_quiet v a b request x p
-quiet_by v a b request (Err fault.Shelf) p = quiet v a b (inputs_of request) (HasOutcome request) fault.Shelf (reports_last request) (λ e. cc) (λ e. cc) p
-quiet_by v a b request (Err fault.Prog) p = λ g. quiet v a b (inputs_of request) (HasOutcome request) fault.Prog (reports_last request) (λ e. cc) (λ e. cc) p
-quiet_by v a b request (Err fault.Stat) p = λ g. absurd (not_grown (v.prog.faults a) (v.prog.faults b) (counts_by v a b (inputs_of request) (HasOutcome request) (Err fault.Stat) p).1 g)
-quiet_by v a b request (Err fault.OutOfMemory) p = tt
+quiet_of v a b words asked (Ok x) p = answer_quiet v a b words asked x p
+quiet_of v a b words asked (Err fault.Shelf) p = quiet v a b (inputs_for words asked) (OutcomeFor words asked) fault.Shelf (reports_last words asked) (λ e. cc) (λ e. cc) p
+quiet_of v a b words asked (Err fault.Prog) p = λ g. quiet v a b (inputs_for words asked) (OutcomeFor words asked) fault.Prog (reports_last words asked) (λ e. cc) (λ e. cc) p
+quiet_of v a b words asked (Err fault.Stat) p = λ g. absurd (not_grown (v.prog.faults a) (v.prog.faults b) (counts_by v a b (inputs_for words asked) (OutcomeFor words asked) (Err fault.Stat) p).1 g)
+quiet_of v a b words asked (Err fault.OutOfMemory) p = tt
+
+pub quiet_by : {O : Type 0} (v : View O) (a b : O) (words : List (List ℕ)) (came : Result Answer Fault) → ComesByWords v a words b came
+    → Quiet (v.prog.faults a) (v.prog.faults b) (v.prog.sink a) (v.prog.sink b) (v.stat.sink a) (v.stat.sink b) (ending_of came)
+quiet_by v a b words came p = quiet_of v a b words (asked_with words p.config) came (plainly v a b words came p)
 
 -- ---- answers
 
 -- what is answered is an outcome of what was found, and where it was recorded, it is replayed
-pub ending_by : {O : Type 0} (v : View O) (a b : O) (request : Option Request) (came : Result Answer Fault) → Comes v a (inputs_of request) (ComesBy request came) b came
-    → IfAnswered (answer_in came) (λ x. EndsBy (v.tells a) (v.files a) (inputs_of request) (ComesBy request (Ok x)) x (λ o. (v.prog.tells a → v.prog.contents b ≡ v.prog.contents a ++ output_of o.writes) × (v.stat.tells a → v.stat.contents b ≡ v.stat.contents a ++ report_of o.writes)))
-ending_by v a b request (Ok x) p = ends_by v a b (inputs_of request) (ComesBy request (Ok x)) x p
-ending_by v a b request (Err f) p = tt
+pub ending_by : {O : Type 0} (v : View O) (a b : O) (words : List (List ℕ)) (came : Result Answer Fault) → ComesByWords v a words b came
+    → IfAnswered (answer_in came) (λ x. AnswersBy (v.tells a) (v.files a) words x (λ o. (v.prog.tells a → v.prog.contents b ≡ v.prog.contents a ++ output_of o.writes) × (v.stat.tells a → v.stat.contents b ≡ v.stat.contents a ++ report_of o.writes)))
+ending_by v a b words (Ok x) p = record {
+  config = p.config;
+  are = p.are;
+  ends = ends_by v a b (inputs_for words (asked_with words p.config)) (ComesFor words (asked_with words p.config) (Ok x)) x p.comes;
+}
+ending_by v a b words (Err f) p = tt
 
-pub replay_by : {O : Type 0} (v : View O) (a b : O) (request : Option Request) (came : Result Answer Fault) → v.tells a → Comes v a (inputs_of request) (ComesBy request came) b came
-    → IfAnswered (answer_in came) (λ x. OutcomeWith (v.files a) (inputs_of request) (ComesBy request (Ok x)) (λ o. (x ≡ o.ending) × WholeFiles o.writes (v.files a) (v.files b)))
-replay_by v a b request (Ok x) t p = leaves_files v a b (inputs_of request) (ComesBy request (Ok x)) (Ok x) (λ fs o h. starts_files request fs o (comes_has request (Ok x) fs o h)) t p
-replay_by v a b request (Err f) t p = tt
+pub replay_by : {O : Type 0} (v : View O) (a b : O) (words : List (List ℕ)) (came : Result Answer Fault) → v.tells a → ComesByWords v a words b came
+    → IfAnswered (answer_in came) (λ x. OutcomeWith (v.files a) (inputs_in words (v.files a)) (ComesIn words (v.files a) (Ok x)) (λ o. (x ≡ o.ending) × WholeFiles o.writes (v.files a) (v.files b)))
+replay_by v a b words (Ok x) t p =
+    leaves_files v a b (inputs_in words (v.files a)) (ComesIn words (v.files a) (Ok x)) (Ok x)
+    (λ fs o h. starts_files words (asked_in words (v.files a)) fs o (comes_has (asked_in words (v.files a)) (Ok x) _ o h)) t (comes_in v a b words (Ok x) p t)
+replay_by v a b words (Err f) t p = tt
 
-pub names_told : {O : Type 0} (v : View O) (a b : O) (request : Option Request) (came : Result Answer Fault) → Comes v a (inputs_of request) (HasOutcome request) b came → IfAnswered (answer_in came) (NamesLong (names_of (inputs_of request)))
-names_told v a b request (Ok x) p = names_with request x p.found p.outcome p.has p.ends.0
-names_told v a b request (Err f) p = tt
+tells_of : {O : Type 0} (v : View O) (a b : O) (words : List (List ℕ)) (asked : Asked) (came : Result Answer Fault) → Comes v a (inputs_for words asked) (OutcomeFor words asked) b came → IfAnswered (answer_in came) (Tells asked)
+tells_of v a b words asked (Ok x) p = tells_with words asked x p.found p.outcome p.has p.ends.0
+tells_of v a b words asked (Err f) p = tt
 
--- ---- words without a shape
+long_of : {O : Type 0} (v : View O) (a b : O) (words : List (List ℕ)) (config : List Found) (came : Result Answer Fault) → AreFound (v.tells a) (v.files a) (config_inputs words) config
+    → Comes v a (inputs_for words (asked_with words config)) (OutcomeFor words (asked_with words config)) b came → IfAnswered (answer_in came) (NamesLong (names_of (inputs_for words (asked_with words config))))
+long_of v a b words config (Ok x) are p =
+    names_with words (asked_with words config) x p.found p.outcome (asked_named words (v.tells a) (v.files a) config are) p.has p.ends.0
+long_of v a b words config (Err f) are p = tt
 
-unbuilt_answer : (x : Answer) → answer_ending x ≡ ending.NotBuilt unbuilt.Words → x ≡ answer.NotBuilt unbuilt.Words
-unbuilt_answer (answer.Exited code) e = cc
-unbuilt_answer answer.Made e = cc
-unbuilt_answer (answer.Object at why) e = cc
-unbuilt_answer (answer.Trace at why) e = cc
-unbuilt_answer (answer.Stopped why pc icnt) e = cc
-unbuilt_answer answer.Budget e = cc
-unbuilt_answer (answer.Text line why) e = cc
-unbuilt_answer (answer.TooLong name) e = cc
-unbuilt_answer (answer.NotBuilt what) e = cc
-
-pub unbuilt_by : {O : Type 0} (v : View O) (a b : O) (request : Option Request) (came : Result Answer Fault) → Comes v a (inputs_of request) (HasOutcome request) b came → ending_of came ≡ ending.NotBuilt unbuilt.Words → IsUnbuilt request
-unbuilt_by v a b request (Ok x) p e = unbuilt_words request p.found p.outcome p.has (sym p.ends.0 ∙ unbuilt_answer x e)
-unbuilt_by v a b request (Err fault.Shelf) p e = cc
-unbuilt_by v a b request (Err fault.Prog) p e = cc
-unbuilt_by v a b request (Err fault.Stat) p e = cc
-unbuilt_by v a b request (Err fault.OutOfMemory) p e = cc
+-- what words are refused, and which files are too long
+pub words_by : {O : Type 0} (v : View O) (a b : O) (words : List (List ℕ)) (came : Result Answer Fault) → (is_unbuilt words ≡ true → came ≡ Ok (answer.NotBuilt unbuilt.Words)) → ComesByWords v a words b came
+    → EndsByWords (v.tells a) (v.files a) words (ending_of came)
+words_by v a b words came first p = record {
+  unbuilt_first = λ e. ap ending_of (first e);
+  config = p.config;
+  are = p.are;
+  tells = subst (λ (x : Option Answer). IfAnswered x (Tells (asked_with words p.config))) (sym (answer_told came)) (tells_of v a b words (asked_with words p.config) came (plainly v a b words came p));
+  long = subst (λ (x : Option Answer). IfAnswered x (NamesLong (names_of (inputs_for words (asked_with words p.config))))) (sym (answer_told came)) (long_of v a b words p.config came p.are (plainly v a b words came p));
+}
 
 -- ---- calm shelves and streams
 
-pub succeeds_by : {O : Type 0} (v : View O) (a b : O) (request : Option Request) (came : Result Answer Fault) → v.calm a → v.tells a → AreHeld (v.files a) (inputs_of request) → Comes v a (inputs_of request) (HasOutcome request) b came
-    → ending_of came ≢ ending.ShelfFault
-succeeds_by v a b request (Ok x) k t h p = answer_no_shelf x
-succeeds_by v a b request (Err fault.Shelf) k t h p = λ e. succeeds v a b (inputs_of request) (HasOutcome request) k t h p
-succeeds_by v a b request (Err fault.Prog) k t h p = λ e. cc
-succeeds_by v a b request (Err fault.Stat) k t h p = λ e. cc
-succeeds_by v a b request (Err fault.OutOfMemory) k t h p = λ e. cc
+succeeds_of : {O : Type 0} (v : View O) (a b : O) (words : List (List ℕ)) (asked : Asked) (came : Result Answer Fault) → v.calm a → v.tells a → AreHeld (v.files a) (inputs_for words asked)
+    → Comes v a (inputs_for words asked) (OutcomeFor words asked) b came → ending_of came ≢ ending.ShelfFault
+succeeds_of v a b words asked (Ok x) k t h p = answer_no_shelf x
+succeeds_of v a b words asked (Err fault.Shelf) k t h p = λ e. succeeds v a b (inputs_for words asked) (OutcomeFor words asked) k t h p
+succeeds_of v a b words asked (Err fault.Prog) k t h p = λ e. cc
+succeeds_of v a b words asked (Err fault.Stat) k t h p = λ e. cc
+succeeds_of v a b words asked (Err fault.OutOfMemory) k t h p = λ e. cc
 
-pub streams_succeed_by : {O : Type 0} (v : View O) (a b : O) (request : Option Request) (came : Result Answer Fault) → v.prog.calm a → v.stat.calm a → Comes v a (inputs_of request) (HasOutcome request) b came → ending_of came ≢ ending.SinkFault
-streams_succeed_by v a b request (Ok x) k l p = answer_no_sink x
-streams_succeed_by v a b request (Err fault.Shelf) k l p = λ e. cc
-streams_succeed_by v a b request (Err fault.Prog) k l p = λ e. prog_succeeds v a b (inputs_of request) (HasOutcome request) k p
-streams_succeed_by v a b request (Err fault.Stat) k l p = λ e. stat_succeeds v a b (inputs_of request) (HasOutcome request) l p
-streams_succeed_by v a b request (Err fault.OutOfMemory) k l p = λ e. cc
+pub succeeds_by : {O : Type 0} (v : View O) (a b : O) (words : List (List ℕ)) (came : Result Answer Fault) → v.calm a → v.tells a → AreHeld (v.files a) (inputs_in words (v.files a)) → ComesByWords v a words b came
+    → ending_of came ≢ ending.ShelfFault
+succeeds_by v a b words came k t h p = succeeds_of v a b words (asked_in words (v.files a)) came k t h (plainly_in v a b words came p t)
+
+streams_succeed_of : {O : Type 0} (v : View O) (a b : O) (words : List (List ℕ)) (asked : Asked) (came : Result Answer Fault) → v.prog.calm a → v.stat.calm a → Comes v a (inputs_for words asked) (OutcomeFor words asked) b came → ending_of came ≢ ending.SinkFault
+streams_succeed_of v a b words asked (Ok x) k l p = answer_no_sink x
+streams_succeed_of v a b words asked (Err fault.Shelf) k l p = λ e. cc
+streams_succeed_of v a b words asked (Err fault.Prog) k l p = λ e. prog_succeeds v a b (inputs_for words asked) (OutcomeFor words asked) k p
+streams_succeed_of v a b words asked (Err fault.Stat) k l p = λ e. stat_succeeds v a b (inputs_for words asked) (OutcomeFor words asked) l p
+streams_succeed_of v a b words asked (Err fault.OutOfMemory) k l p = λ e. cc
+
+pub streams_succeed_by : {O : Type 0} (v : View O) (a b : O) (words : List (List ℕ)) (came : Result Answer Fault) → v.prog.calm a → v.stat.calm a → ComesByWords v a words b came → ending_of came ≢ ending.SinkFault
+streams_succeed_by v a b words came k l p = streams_succeed_of v a b words (asked_with words p.config) came k l (plainly v a b words came p)

@@ -7,6 +7,7 @@ use ecoff_load::ObjectWhy;
 use event_trace::TraceWhy;
 use journal::Fault;
 use pisa_step::Cause;
+use sim_opts::WordWhy;
 use ss_base::{Name, TextWhy};
 
 /// How a command ends.
@@ -16,6 +17,9 @@ pub enum Ending {
     Exited { code: u32 },
     /// The command did its work, and no program ran.
     Made,
+    /// The words are refused at this place, counted from 0, or 2^32 - 1 where that is less. What is wrong
+    /// at the end has the number of words as its place.
+    Words { at: u32, why: WordWhy },
     /// The object is refused at this place of its file, counted from 0.
     Object { at: u64, why: ObjectWhy },
     /// The trace is refused at this place of its file, counted from 0.
@@ -30,7 +34,8 @@ pub enum Ending {
     Stopped { cause: Cause, pc: u32, icnt: u64 },
     /// The run did as many instructions as it may.
     Budget,
-    /// The source is refused at this line, counted from 1, or as a whole at 0.
+    /// The configuration is refused at this line, counted from 1, or the source, or the source as a whole
+    /// at 0.
     Text { line: u32, why: TextWhy },
     /// The file of this name is longer than it may be.
     TooLong { name: Name },
@@ -48,6 +53,7 @@ impl Ending {
         match self {
             Ending::Exited { .. } => 0,
             Ending::Made => 0,
+            Ending::Words { .. } => 1,
             Ending::Object { .. } => 2,
             Ending::Trace { .. } => 3,
             Ending::ShelfFault => 5,
@@ -79,6 +85,7 @@ impl From<Answer> for Ending {
         match answer {
             Answer::Exited { code } => Ending::Exited { code },
             Answer::Made => Ending::Made,
+            Answer::Words { at, why } => Ending::Words { at, why },
             Answer::Object { at, why } => Ending::Object { at, why },
             Answer::Trace { at, why } => Ending::Trace { at, why },
             Answer::Stopped { cause, pc, icnt } => Ending::Stopped { cause, pc, icnt },

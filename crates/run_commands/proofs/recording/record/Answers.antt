@@ -9,5 +9,5 @@ pub returns-in-Ok-TooLong : goal.returns-in-Ok-TooLong
 returns-in-Ok-TooLong g c =
     record_long g.O.Outside.view c.args.outside.now c.find_file.new.outside c.refuse_long.new.outside c.args.request c.refuse_long.result (rw c.in-Ok-TooLong.field-0-is at c.in-Ok-TooLong.ensures) c.refuse_long.ensures
 
-pub returns-in-Err : goal.returns-in-Err
-returns-in-Err g c = record_unloaded g.O.Outside.view c.args.outside.now c.find_file.new.outside c.args.request c.in-Err.fault c.in-Err.ensures
+pub returns : goal.returns
+returns g c = record_unloaded g.O.Outside.view c.args.outside.now c.find_file.new.outside c.args.request c.in-Err.fault c.in-Err.ensures
