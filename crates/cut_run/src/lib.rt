@@ -4,8 +4,8 @@
 //! out behind them, does further ones whose commit text and output are written, and takes a point once so
 //! many instructions are done, or at the end of the run where that comes first. What it writes is one
 //! journal, a function of the start state and the plan (`specs/Plan.antt`), whole or cut at one write. It
-//! promises that the commit text and the output are those of the uncut run, and that from the point the run
-//! goes on as its rest.
+//! promises that the output is that of the uncut run, that the commit text is that of the steps behind the
+//! skipped ones, and that the point holds the state in which it was taken.
 #![tactic(auto)]
 
 mod cut;
