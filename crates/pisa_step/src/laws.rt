@@ -1,5 +1,5 @@
 //! Laws of the effects, each carried by a call whose contract is the law.
-ghost use Rattle.std.specs.Prelude.{◌≡◌, ◌+◌, ◌<◌, ◌^◌, ℕ, true, false, Ok};
+ghost use Rattle.std.specs.Prelude.{◌≡◌, ◌+◌, ◌<◌, ◌^◌, ℕ, true, false, Ok, IfOk};
 ghost use Rattle.std.specs.List.{Contains};
 ghost use Rattle.pisa_isa.specs.declared.classes.AccessKind.TheVariants as access;
 ghost use Rattle.pisa_isa.specs.declared.instr.Instr.{Instr};
@@ -14,6 +14,7 @@ ghost use Rattle.pisa_step.specs.declared.changes.TextRange.{TextRange};
 ghost use Rattle.pisa_step.specs.Actions.{action_of};
 ghost use Rattle.pisa_step.specs.Dependence.{Accesses, GoesOn, ReadTheSame, effective_address, loaded_count, value_at, written_places};
 ghost use Rattle.pisa_step.specs.Effect.{changed, effect_of};
+ghost use Rattle.pisa_step.specs.Proper.{IsProper};
 ghost use Rattle.pisa_step.specs.Reader.{Reader};
 ghost use Rattle.pisa_step.specs.Memory.{part_loaded_at, word_at};
 
@@ -41,6 +42,12 @@ pub fn effects_write_what_is_listed()
         → written_places e ≡ writes_of i }
     ensures others { (s : Reader) (i : Instr) (pc : ℕ) (text : TextRange) (e : Changes) (p : Place)
         → effect_of s i pc text ≡ Ok e → (Contains (writes_of i) p → ⊥) → value_at (changed s e) p ≡ value_at s p }
+{}
+
+/// An instruction that doesn't stop writes registers above 0 and below 32, in rising order, and memory
+/// at addresses below 2^32, of which none lies in text.
+pub fn effects_write_where_they_can()
+    ensures { (s : Reader) (i : Instr) (pc : ℕ) (text : TextRange) → IsWellFormed i → IfOk (effect_of s i pc text) (IsProper text) }
 {}
 
 /// A load or a store that doesn't stop has its effective address, and a store a write; no other

@@ -24,7 +24,7 @@ pub use changes::{Changes, MemWrite, TextRange};
 pub use effects::effect;
 pub use laws::{
     effects_access_what_is_listed, effects_depend_on_what_is_read, effects_go_where_control_says,
-    effects_write_what_is_listed, part_loads_make_words,
+    effects_write_what_is_listed, effects_write_where_they_can, part_loads_make_words,
 };
 pub use machine::Machine;
 pub use writes::apply;

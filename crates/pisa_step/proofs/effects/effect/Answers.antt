@@ -1,20 +1,10 @@
-use Rattle.std.proofs.Common.{sym, subst, arith, IfOk}
-use Rattle.pisa_isa.specs.CodingLaws.{bounds}
+use Rattle.std.proofs.Common.{sym, subst, IfOk}
 use Rattle.pisa_step.specs.Actions.{action_of}
-use Rattle.pisa_step.specs.Effect.{AreRegisters, effect_of}
+use Rattle.pisa_step.specs.Effect.{effect_of}
 use Rattle.pisa_step.specs.Proper.{IsProper}
-use Rattle.pisa_isa.specs.declared.instr.Instr.{Instr}
-use Rattle.pisa_isa.specs.Coding.{IsWellFormed}
-use Rattle.pisa_step.proofs.Pairs.{pair_below}
+use Rattle.pisa_step.proofs.Pairs.{pair_below, registers_below}
 use Rattle.pisa_step.proofs.Properness.{outcome_proper}
 use Rattle.pisa_step.proofs.effects.effect.Goals as goal
-
-registers : (i : Instr) → IsWellFormed i → AreRegisters i
-registers i formed = let b = bounds i formed in record {
-  rs = omega (arith, b.rs);
-  rt = omega (arith, b.rt);
-  rd = omega (arith, b.rd);
-}
 
 pub by_operation-requires-clause-pair : goal.by_operation-requires-clause-pair
 by_operation-requires-clause-pair g c = pair_below c.args.i.now c.requires.well_formed
@@ -27,5 +17,5 @@ pub returns-clause-proper : goal.returns-clause-proper
 returns-clause-proper g c =
     subst (λ r. IfOk r (IsProper c.args.text)) (sym c.by_operation.ensures)
     (outcome_proper (action_of c.args.i.now.op) (g.M.Machine.reads c.args.m.now) c.args.i.now c.args.pc c.args.text
-    (registers c.args.i.now c.requires.well_formed)
+    (registers_below c.args.i.now c.requires.well_formed)
     (pair_below c.args.i.now c.requires.well_formed))
