@@ -33,6 +33,8 @@ pub struct Cache {
     config: CacheConfig,
     ways: Vec<Way>,
     counts: Counts,
+    /// The place in its set of the block that was touched last, where the next one likely is.
+    last: usize,
 }
 
 impl Model for Cache {
@@ -60,6 +62,7 @@ impl Cache {
             config: *c,
             ways: unused_ways(alloc, c)?,
             counts: Counts::new(),
+            last: 0,
         })
     }
 
@@ -76,7 +79,14 @@ impl Cache {
         let first = self.config.first_way(addr);
         let after = first + self.config.ways as usize;
         let ways = &mut self.ways[first..after];
-        let touch = touch(ways, block, write, &self.config, self.counts.accesses);
+        let touch = touch(
+            ways,
+            block,
+            write,
+            &self.config,
+            self.counts.accesses,
+            &mut self.last,
+        );
         self.counts.count(&touch);
         touch
     }
@@ -99,7 +109,7 @@ impl Cache {
         let block = self.config.block_of(addr);
         let first = self.config.first_way(addr);
         let after = first + self.config.ways as usize;
-        fill(&mut self.ways[first..after], block, end);
+        fill(&mut self.ways[first..after], block, end, self.last);
     }
 
     /// The fill end of an address's block, and 0 where the block is not held or none was set since it came in.

@@ -76,8 +76,66 @@ impl Way {
     }
 }
 
-/// The place of the way that holds the block. It looks at every way, since leaving at the one that is found is what a
-/// processor can't foresee.
+/// What a walk over the ways of a set finds for a block.
+#[derive(Clone, Copy, Debug, PartialEq, Eq)]
+struct Look {
+    /// The place of the way that holds the block.
+    place: Option<usize>,
+    /// The place of the way with the least stamp, which holds nothing or the block that leaves first.
+    oldest: usize,
+}
+
+/// Looks for the block, and for the way with the least stamp, in one walk. It looks at every way, since leaving at the one
+/// that is found is what a processor can't foresee.
+fn look_up(ways: &[Way], block: u32) -> Look
+    requires { 1 ≤ length ways.now }
+    ensures place { IsPlace block ways.now result.place }
+    ensures inside { result.oldest < length ways.now }
+    ensures least { All (λ w. (slice_index_or ways.now result.oldest unused).stamp ≤ w.stamp) ways.now }
+{
+    let mut found = ways.len();
+    let mut oldest = 0;
+    let mut least = ways[0].stamp;
+    for at in 0..ways.len() {
+        let way = ways[at];
+        if way.holds(block) {
+            found = at;
+        }
+        if way.stamp < least {
+            oldest = at;
+            least = way.stamp;
+        }
+    }
+    if found < ways.len() {
+        Look {
+            place: Some(found),
+            oldest,
+        }
+    } else {
+        Look {
+            place: None,
+            oldest,
+        }
+    }
+}
+
+/// Looks for the block first where it likely is, and else in one walk. Where it is held, the oldest way may be any.
+fn look_near(ways: &[Way], block: u32, likely: usize) -> Look
+    requires { 1 ≤ length ways.now }
+    ensures place { IsPlace block ways.now result.place }
+    ensures inside { result.oldest < length ways.now }
+    ensures least { result.place ≡ None → All (λ w. (slice_index_or ways.now result.oldest unused).stamp ≤ w.stamp) ways.now }
+{
+    if likely < ways.len() && ways[likely].holds(block) {
+        return Look {
+            place: Some(likely),
+            oldest: likely,
+        };
+    }
+    look_up(ways, block)
+}
+
+/// The place of the way that holds the block.
 fn place_of(ways: &[Way], block: u32) -> Option<usize>
     ensures { IsPlace block ways.now result }
 {
@@ -95,30 +153,25 @@ fn place_of(ways: &[Way], block: u32) -> Option<usize>
     }
 }
 
-/// The place of the way with the least stamp, which holds nothing or the block that leaves first.
-fn oldest(ways: &[Way]) -> usize
-    requires { 1 ≤ length ways.now }
-    ensures inside { result < length ways.now }
-    ensures least { All (λ w. (slice_index_or ways.now result unused).stamp ≤ w.stamp) ways.now }
+/// The place of the way that holds the block, tried first at the place where it likely is.
+fn place_near(ways: &[Way], block: u32, likely: usize) -> Option<usize>
+    ensures { IsPlace block ways.now result }
 {
-    let mut oldest = 0;
-    let mut least = ways[0].stamp;
-    for place in 1..ways.len() {
-        if ways[place].stamp < least {
-            oldest = place;
-            least = ways[place].stamp;
-        }
+    if likely < ways.len() && ways[likely].holds(block) {
+        return Some(likely);
     }
-    oldest
+    place_of(ways, block)
 }
 
-/// Reads or writes the block in the ways of its set, after so many accesses of the cache.
+/// Reads or writes the block in the ways of its set, after so many accesses of the cache. It's looked for first at the
+/// place of the block that was touched last, and its own place is noted.
 pub(crate) fn touch(
     ways: &mut [Way],
     block: u32,
     write: bool,
     config: &CacheConfig,
     accesses: u64,
+    last: &mut usize,
 ) -> Touch
     requires small { accesses + 1 < 2 ^ 62 }
     requires sound { IsSoundSet config.now accesses ways.old × (1 ≤ config.now.ways) }
@@ -128,8 +181,10 @@ pub(crate) fn touch(
     ensures kept { IsTrue result.hit → result.victim ≡ None }
     ensures sound { IsSoundSet config.now (accesses + 1) ways.new }
 {
-    match place_of(ways, block) {
+    let look = look_near(ways, block, *last);
+    match look.place {
         Some(place) => {
+            *last = place;
             ways[place].renew(write, config.fifo, accesses + 1);
             Touch {
                 hit: true,
@@ -137,20 +192,20 @@ pub(crate) fn touch(
             }
         }
         None => {
-            let place = oldest(ways);
-            let victim = ways[place].victim(config);
-            ways[place].enter(block, write, accesses + 1);
+            let victim = ways[look.oldest].victim(config);
+            ways[look.oldest].enter(block, write, accesses + 1);
+            *last = look.oldest;
             Touch { hit: false, victim }
         }
     }
 }
 
-/// Sets the block's fill end, where the block is held.
-pub(crate) fn fill(ways: &mut [Way], block: u32, end: u64)
+/// Sets the block's fill end, where the block is held. Where it likely is, it's tried first.
+pub(crate) fn fill(ways: &mut [Way], block: u32, end: u64, likely: usize)
     ensures lines { (c : CacheConfig) (n : ℕ) → IsSoundSet c n ways.old → newest_first n ways.new ≡ changed block (ending_at end) (newest_first n ways.old) }
     ensures sound { (c : CacheConfig) (n : ℕ) → IsSoundSet c n ways.old → IsSoundSet c n ways.new }
 {
-    if let Some(place) = place_of(ways, block) {
+    if let Some(place) = place_near(ways, block, likely) {
         ways[place].fill_end = end;
     }
 }

@@ -1,3 +1,4 @@
 pub mod LawProofs
+pub mod Places
 pub mod Rises
 pub mod Walks

@@ -1,10 +1,9 @@
 -- Walks over the ring from the oldest slot on.
-use Rattle.std.proofs.Common.{◌≡◌, ℕ, zero, suc, ◌+◌, ◌<◌, ◌≤◌, Some, None, cond, Bool, true, false, List, [], ◌∷◌, ◌++◌, length, take, drop, refl, sym, ap, ◌∙◌, arith, add-one}
-use Rattle.std.specs.Prelude.{map, slice_get, slice_set, Option, Result, ◌==◌, ◌||◌, nat_le, if◌then◌else◌}
+use Rattle.std.proofs.Common.{◌≡◌, ℕ, ◌+◌, ◌<◌, ◌≤◌, Some, None, cond, Bool, true, false, List, [], ◌∷◌, ◌++◌, length, take, refl, sym, ap, ◌∙◌, arith}
+use Rattle.std.specs.Prelude.{map, slice_get, Option, Result, ◌==◌, ◌||◌, nat_le, if◌then◌else◌}
 use Rattle.std.specs.List.{list_any}
 use Rattle.std.proofs.lemmas.List.{reverse-append, take_more}
 use Rattle.std.proofs.lemmas.Option.{slice_get_within, get_or_from_slice_get}
-use Rattle.circular_buffer.specs.Buffer.{Buffer, buffer}
 use Rattle.lsq_core.specs.declared.slots.Slot.{Slot}
 use Rattle.lsq_core.specs.Queue.{Entry, load_answer, answer, answer_after, oldest, forbids, forwards, or_else}
 use Rattle.lsq_core.specs.Slots.{entry_of, entries_of, block_of, answer_for, up_to, is_of, holds_of}
@@ -56,27 +55,6 @@ count_next row i count new xs x e le h is =
     by_test true k = (omega arith, ap (λ n. entries_of (take n xs)) k ∙ one_more xs i x e)
     by_test false k = (omega arith, ap (λ n. entries_of (take n xs)) k ∙ h)
 
-all_taken : {X : Type 0} (xs : List X) → take (length xs) xs ≡ xs
-all_taken [] = refl
-all_taken (x ∷ xs) = ap (λ l. x ∷ l) (all_taken xs)
-
--- the slots up to a place are changed
-pub one_changed : (f : Slot → Slot) (xs : List Slot) (i : ℕ) (x : Slot) → slice_get (map f (take i xs) ++ drop i xs) i ≡ Some x
-    → slice_set (map f (take i xs) ++ drop i xs) i (f x) ≡ map f (take (i + 1) xs) ++ drop (i + 1) xs
-one_changed f xs i x e = step xs i e ∙ ap (λ k. map f (take k xs) ++ drop k xs) (sym (add-one i))
-  where
-    step : (xs : List Slot) (i : ℕ) → slice_get (map f (take i xs) ++ drop i xs) i ≡ Some x
-        → slice_set (map f (take i xs) ++ drop i xs) i (f x) ≡ map f (take (suc i) xs) ++ drop (suc i) xs
-    step [] zero e = absurd cc
-    step [] (suc i) e = absurd cc
-    step (y ∷ xs) zero e = let is : y ≡ x = cc in ap (λ z. f z ∷ xs) (sym is)
-    step (y ∷ xs) (suc i) e = ap (λ l. f y ∷ l) (step xs i e)
-
-pub there : (f : Slot → Slot) (xs : List Slot) (i : ℕ) → i < length xs → (x : Slot) × (slice_get (map f (take i xs) ++ drop i xs) i ≡ Some x)
-there f [] i h = absurd (omega arith)
-there f (y ∷ xs) zero h = (y, refl)
-there f (y ∷ xs) (suc i) h = there f xs i (omega arith)
-
 -- the block that is looked up is that of the load
 pub load_looks_up : (c row : ℕ) (entries : List Entry) → answer_for c (block_of row entries) row entries ≡ load_answer c row entries
 load_looks_up c row [] = refl
@@ -87,16 +65,6 @@ load_looks_up c row (e ∷ older) = by_row (e.row == row) (load_looks_up c row o
         ≡ cond b (answer_after c e.block older) (load_answer c row older)
     by_row true ih = refl
     by_row false ih = ih
-
-pub step_all : (f : Slot → Slot) (start before after : Buffer Slot) (i : ℕ) → i < length start.items
-    → before ≡ buffer (map f (take i start.items) ++ drop i start.items) start.capacity
-    → ((x : Slot) → slice_get before.items i ≡ Some x → after ≡ buffer (slice_set before.items i (f x)) before.capacity)
-    → after ≡ buffer (map f (take (i + 1) start.items) ++ drop (i + 1) start.items) start.capacity
-step_all f start before after i inside e g =
-    let (x, at) = there f start.items i inside in
-    let at_before : slice_get before.items i ≡ Some x = ap (λ b. slice_get b.items i) e ∙ at in
-    g x at_before
-    ∙ (ap (λ b. buffer (slice_set b.items i (f x)) b.capacity) e ∙ ap (λ l. buffer l start.capacity) (one_changed f start.items i x at))
 
 pub held_next : (store : Bool) (row i : ℕ) (old new : Bool) (xs : List Slot) (x : Slot) → slice_get xs i ≡ Some x
     → old ≡ holds_of store row (entries_of (take i xs)) → new ≡ (is_of store row (entry_of x) || old)

@@ -1,5 +1,5 @@
 -- How the slots of the ring, the oldest first, show as entries. Nothing here has to be believed.
-use Rattle.std.specs.Prelude.{ℕ, Bool, true, false, not, ◌&&◌, List, [], ◌∷◌, map, reverse, Option, Result, Ok, ◌==◌, nat_le, if◌then◌else◌}
+use Rattle.std.specs.Prelude.{ℕ, suc, Bool, true, false, not, ◌&&◌, List, [], ◌∷◌, map, reverse, Option, Result, Ok, ◌==◌, nat_le, nat_lt, if◌then◌else◌}
 use Rattle.circular_buffer.specs.Buffer.{Buffer}
 use Rattle.lsq_core.specs.declared.slots.Slot.{Slot}
 use Rattle.lsq_core.specs.declared.slots.Part.{Part}
@@ -47,3 +47,13 @@ is_of false row e = (e.row == row) && not e.store
 abbrev pub holds_of : Bool → ℕ → List Entry → Bool
 holds_of true row entries = holds_store row entries
 holds_of false row entries = holds_load row entries
+
+-- the rows of these slots, the oldest first, rise from the number on
+abbrev pub rises_from : ℕ → List Slot → Bool
+rises_from n [] = true
+rises_from n (s ∷ newer) = nat_le n s.row && rises_from (suc s.row) newer
+
+-- how many of the oldest slots are below the row
+abbrev pub place_of : ℕ → List Slot → ℕ
+place_of n [] = 0
+place_of n (s ∷ newer) = if nat_lt s.row n then suc (place_of n newer) else 0

@@ -1,9 +1,9 @@
 //! The slots of the ring, and walks over them from the oldest to the newest.
-ghost use Rattle.std.specs.Prelude.{◌≡◌, ◌<◌, ◌≤◌, ◌&&◌, ◌||◌, not, length, map, take, slice_get, slice_set, Some, None, if◌then◌else◌};
+ghost use Rattle.std.specs.Prelude.{◌≡◌, ◌<◌, ◌≤◌, ◌&&◌, ◌||◌, not, IsTrue, length, map, take, slice_get, slice_set, Some, None, if◌then◌else◌};
 ghost use Rattle.circular_buffer.specs.Buffer.{buffer};
 ghost use Rattle.lsq_core.specs.declared.slots.Slot.{Slot};
 ghost use Rattle.lsq_core.specs.Queue.{is_by, or_else, set_once, forbids, forwards, answer};
-ghost use Rattle.lsq_core.specs.Slots.{entry_of, entries_of, block_of, answer_for, learned, up_to};
+ghost use Rattle.lsq_core.specs.Slots.{entry_of, entries_of, block_of, answer_for, learned, up_to, rises_from, place_of};
 
 use circular_buffer::HeapCircularBuffer;
 
@@ -166,6 +166,25 @@ pub fn count_up_to(slots: &HeapCircularBuffer<Slot>, row: u64) -> usize
     count
 }
 
+/// How many of the oldest slots are below the row, by halving.
+fn place_of(slots: &HeapCircularBuffer<Slot>, row: u64) -> usize
+    requires { IsTrue (rises_from 0 slots.now.items) }
+    ensures { result ≡ place_of row slots.now.items }
+{
+    let mut low = 0;
+    let mut high = slots.len();
+    'halves: while low < high {
+        let middle = low + (high - low) / 2;
+        let slot = slot_at(slots, middle);
+        if slot.row < row {
+            low = middle + 1;
+        } else {
+            high = middle;
+        }
+    }
+    low
+}
+
 fn learn_at(slots: &mut HeapCircularBuffer<Slot>, at: usize, row: u64, cycle: u64, part: Part)
     requires { at < length slots.old.items }
     ensures { (x : Slot) → slice_get slots.old.items at ≡ Some x
@@ -179,9 +198,11 @@ fn learn_at(slots: &mut HeapCircularBuffer<Slot>, at: usize, row: u64, cycle: u6
 
 /// Notes of the row since when a part of it is known.
 pub fn learn(slots: &mut HeapCircularBuffer<Slot>, row: u64, cycle: u64, part: Part)
+    requires { IsTrue (rises_from 0 slots.old.items) }
     ensures { slots.new ≡ buffer (map (learned row cycle part) slots.old.items) slots.old.capacity }
 {
-    for at in 0..slots.len() {
+    let at = place_of(slots, row);
+    if at < slots.len() {
         learn_at(slots, at, row, cycle, part);
     }
 }

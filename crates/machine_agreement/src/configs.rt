@@ -42,11 +42,12 @@ const NARROW: OooConfig = OooConfig {
     ruu: 2,
     lsq: 2,
     alus: 1,
+    mults: 1,
     ports: 1,
     ..MACHINE
 };
 
-/// Two of everything.
+/// Two of everything, and a short penalty.
 const DOUBLE: OooConfig = OooConfig {
     ifq: 2,
     decode: 2,
@@ -57,6 +58,7 @@ const DOUBLE: OooConfig = OooConfig {
     penalty: 1,
     alus: 2,
     mults: 2,
+    ports: 2,
     ..MACHINE
 };
 
@@ -74,15 +76,106 @@ const WIDE: OooConfig = OooConfig {
     ..MACHINE
 };
 
-/// Few lines of a cache.
-const fn lines(sets: u32, block: u32, ways: u32, fifo: bool) -> CacheConfig {
-    CacheConfig {
-        sets,
-        block,
-        ways,
-        fifo,
-    }
-}
+/// Issues in the order of the program.
+const IN_ORDER: OooConfig = OooConfig {
+    alus: 3,
+    mults: 7,
+    ports: 5,
+    in_order: true,
+    ..MACHINE
+};
+
+/// Issues nothing along wrong paths.
+const RIGHT: OooConfig = OooConfig {
+    alus: 5,
+    mults: 3,
+    ports: 7,
+    wrong_issue: false,
+    ..MACHINE
+};
+
+/// In order, and nothing along wrong paths.
+const STRICT: OooConfig = OooConfig {
+    ifq: 8,
+    decode: 8,
+    issue: 8,
+    commit: 8,
+    alus: 7,
+    mults: 5,
+    ports: 3,
+    in_order: true,
+    wrong_issue: false,
+    ..MACHINE
+};
+
+/// Fetches and dispatches more than it issues and commits.
+const FRONT_HEAVY: OooConfig = OooConfig {
+    ifq: 16,
+    decode: 12,
+    issue: 3,
+    commit: 1,
+    ruu: 24,
+    lsq: 12,
+    alus: 6,
+    mults: 4,
+    ports: 6,
+    ..MACHINE
+};
+
+/// Issues and commits more than it dispatches.
+const BACK_HEAVY: OooConfig = OooConfig {
+    ifq: 64,
+    decode: 3,
+    issue: 24,
+    commit: 16,
+    ruu: 32,
+    lsq: 8,
+    penalty: 8,
+    alus: 4,
+    mults: 6,
+    ports: 4,
+    ..MACHINE
+};
+
+/// A first level of instructions.
+const IL1: Level = Level::Own(CacheConfig {
+    sets: 4,
+    block: 32,
+    ways: 1,
+    fifo: false,
+});
+
+/// A second level of instructions.
+const IL2: Level = Level::Own(CacheConfig {
+    sets: 2,
+    block: 64,
+    ways: 2,
+    fifo: true,
+});
+
+/// A first level of data.
+const DL1: Level = Level::Own(CacheConfig {
+    sets: 2,
+    block: 32,
+    ways: 2,
+    fifo: true,
+});
+
+/// A second level of data.
+const DL2: Level = Level::Own(CacheConfig {
+    sets: 4,
+    block: 64,
+    ways: 2,
+    fifo: false,
+});
+
+/// A TLB.
+const TLB: Option<CacheConfig> = Some(CacheConfig {
+    sets: 1,
+    block: 4096,
+    ways: 2,
+    fifo: false,
+});
 
 /// A hierarchy without caches and TLBs.
 const BARE: HierConfig = HierConfig {
@@ -103,98 +196,138 @@ const BARE: HierConfig = HierConfig {
     wait: false,
 };
 
-/// The configurations, each with a name that tells what it tries first.
-pub fn setups() -> [Setup<'static>; 12] {
-    let plain = Setup {
-        name: "default",
-        config: MACHINE,
-        hier: BARE,
-        kind: PredKind::Bimod,
-    };
-    let one = HierConfig {
-        dl1: Level::Own(lines(1, 32, 1, false)),
-        ..BARE
-    };
-    let split = HierConfig {
-        il1: Level::Own(lines(4, 32, 1, false)),
-        dl1: Level::Own(lines(2, 32, 2, true)),
-        dl2: Level::Own(lines(4, 64, 2, false)),
-        ..BARE
-    };
-    let full = HierConfig {
-        il2: Level::Shared,
-        itlb: Some(lines(1, 4096, 2, false)),
-        dtlb: Some(lines(1, 4096, 2, false)),
-        ..split
-    };
-    let in_order = OooConfig {
-        in_order: true,
-        ..MACHINE
-    };
-    let quiet = OooConfig {
-        wrong_issue: false,
-        ..MACHINE
+/// The levels of both sides, each with its second behind it, over a hierarchy's other values.
+const fn levels(il1: Level, il2: Level, dl1: Level, dl2: Level, others: HierConfig) -> HierConfig {
+    HierConfig {
+        il1,
+        il2,
+        dl1,
+        dl2,
+        ..others
+    }
+}
+
+/// A machine with a name.
+const fn named(
+    name: &'static str,
+    config: OooConfig,
+    hier: HierConfig,
+    kind: PredKind,
+) -> Setup<'static> {
+    Setup {
+        name,
+        config,
+        hier,
+        kind,
+    }
+}
+
+/// Machines whose data side has no second level.
+fn with_one_level() -> [Setup<'static>; 7] {
+    use Level::{Off, Shared};
+    let awaited = HierConfig { wait: true, ..BARE };
+    let one_line = Level::Own(CacheConfig {
+        sets: 1,
+        block: 32,
+        ways: 1,
+        fifo: false,
+    });
+    let data_tlb = HierConfig { dtlb: TLB, ..BARE };
+    let code_tlb = HierConfig {
+        itlb: TLB,
+        ..awaited
     };
     [
-        plain,
-        Setup {
-            name: "narrow",
-            config: NARROW,
-            ..plain
-        },
-        Setup {
-            name: "double",
-            config: DOUBLE,
-            kind: PredKind::NotTaken,
-            ..plain
-        },
-        Setup {
-            name: "wide",
-            config: WIDE,
-            kind: PredKind::Taken,
-            ..plain
-        },
-        Setup {
-            name: "in order",
-            config: in_order,
-            ..plain
-        },
-        Setup {
-            name: "right issues",
-            config: quiet,
-            kind: PredKind::NotTaken,
-            ..plain
-        },
-        Setup {
-            name: "two-level",
-            kind: PredKind::TwoLevel,
-            ..plain
-        },
-        Setup {
-            name: "combined",
-            kind: PredKind::Comb,
-            ..plain
-        },
-        Setup {
-            name: "one line",
-            hier: one,
-            ..plain
-        },
-        Setup {
-            name: "one line, wait",
-            hier: HierConfig { wait: true, ..one },
-            ..plain
-        },
-        Setup {
-            name: "split caches",
-            hier: split,
-            config: WIDE,
-            ..plain
-        },
-        Setup {
-            name: "all caches, wait",
-            hier: HierConfig { wait: true, ..full },
-            ..plain
-        },
+        named("no caches", MACHINE, BARE, PredKind::Bimod),
+        named(
+            "instructions",
+            NARROW,
+            levels(IL1, Off, Off, Off, BARE),
+            PredKind::Bimod,
+        ),
+        named(
+            "instructions, two levels",
+            DOUBLE,
+            levels(IL1, IL2, Off, Off, code_tlb),
+            PredKind::NotTaken,
+        ),
+        named(
+            "one line of data",
+            IN_ORDER,
+            levels(Off, Off, one_line, Off, awaited),
+            PredKind::Taken,
+        ),
+        named(
+            "first levels",
+            RIGHT,
+            levels(IL1, Off, DL1, Off, data_tlb),
+            PredKind::NotTaken,
+        ),
+        named(
+            "first levels, second of instructions",
+            STRICT,
+            levels(IL1, IL2, DL1, Off, awaited),
+            PredKind::Comb,
+        ),
+        named(
+            "shared first level",
+            FRONT_HEAVY,
+            levels(Shared, Off, DL1, Off, BARE),
+            PredKind::TwoLevel,
+        ),
     ]
+}
+
+/// Machines whose data side has two levels.
+fn with_two_levels() -> [Setup<'static>; 5] {
+    use Level::{Off, Shared};
+    let both_tlbs = HierConfig {
+        itlb: TLB,
+        dtlb: TLB,
+        ..BARE
+    };
+    let awaited = HierConfig {
+        wait: true,
+        ..both_tlbs
+    };
+    [
+        named(
+            "data, two levels",
+            WIDE,
+            levels(Off, Off, DL1, DL2, BARE),
+            PredKind::Taken,
+        ),
+        named(
+            "data in two levels, instructions in one",
+            BACK_HEAVY,
+            levels(IL1, Off, DL1, DL2, both_tlbs),
+            PredKind::Comb,
+        ),
+        named(
+            "two levels each",
+            MACHINE,
+            levels(IL1, IL2, DL1, DL2, awaited),
+            PredKind::TwoLevel,
+        ),
+        named(
+            "shared second level",
+            WIDE,
+            levels(IL1, Shared, DL1, DL2, awaited),
+            PredKind::Bimod,
+        ),
+        named(
+            "shared first level before a second",
+            DOUBLE,
+            levels(Shared, Off, DL1, DL2, both_tlbs),
+            PredKind::Bimod,
+        ),
+    ]
+}
+
+/// Every shape of hierarchy that can stand, each with a machine of its own: pools of every size, widths from 1 to 32, each kind
+/// of prediction, both issue options, and values at once and awaited.
+pub fn setups() -> [Setup<'static>; 12] {
+    let [a, b, c, d, e, f, g] = with_one_level();
+    let [h, i, j, k, l] = with_two_levels();
+    [a, b, c, d, e, f, g, h, i, j, k, l]
 }

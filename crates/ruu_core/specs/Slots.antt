@@ -1,6 +1,6 @@
 -- How the slots of the ring, the oldest first, show as rows, and what each keeps of its producers. Nothing here has to be
 -- believed.
-use Rattle.std.specs.Prelude.{◌≡◌, ℕ, ◌<◌, ◌^◌, Bool, true, false, not, List, [], ◌∷◌, map, reverse, slice_get, find, option_map, Option, Some, None, is_none, nat_lt, nat_le, ◌==◌, ◌&&◌, ◌||◌, if◌then◌else◌}
+use Rattle.std.specs.Prelude.{◌≡◌, ℕ, suc, ◌<◌, ◌^◌, Bool, true, false, not, List, [], ◌∷◌, map, reverse, slice_get, find, option_map, Option, Some, None, is_none, nat_lt, nat_le, ◌==◌, ◌&&◌, ◌||◌, if◌then◌else◌}
 use Rattle.std.specs.List.{list_all, list_any}
 use Rattle.circular_buffer.specs.Buffer.{Buffer}
 use Rattle.pisa_isa.specs.declared.places.Place.{Place}
@@ -129,3 +129,19 @@ wanted what after s = is_above after s.station.row && slot_passes what s
 -- the least of these, the oldest first, that is above a number and passes
 abbrev pub least_of : Search → Option ℕ → List Slot → Option ℕ
 least_of what after slots = option_map (λ s. s.station.row) (find (wanted what after) slots)
+
+-- ---- places
+
+-- the rows of these slots, the oldest first, rise from the number on
+abbrev pub rises_from : ℕ → List Slot → Bool
+rises_from n [] = true
+rises_from n (s ∷ newer) = nat_le n s.station.row && rises_from (suc s.station.row) newer
+
+-- how many of the oldest slots are below the row
+abbrev pub place_of : ℕ → List Slot → ℕ
+place_of n [] = 0
+place_of n (s ∷ newer) = if nat_lt s.station.row n then suc (place_of n newer) else 0
+
+abbrev pub place_behind : Option ℕ → List Slot → ℕ
+place_behind None slots = 0
+place_behind (Some n) slots = place_of n slots

@@ -3,7 +3,7 @@ ghost use Rattle.std.specs.Prelude.{◌≡◌, ◌<◌, ◌≤◌, length, find,
 ghost use Rattle.std.specs.List.{list_any};
 ghost use Rattle.circular_buffer.specs.Buffer.{buffer};
 ghost use Rattle.ruu_core.specs.declared.slot.Slot.{Slot};
-ghost use Rattle.ruu_core.specs.Slots.{least_of, source_behind, source_for, sources_behind, slot_after, slot_named, up_to};
+ghost use Rattle.ruu_core.specs.Slots.{least_of, source_behind, source_for, sources_behind, slot_after, slot_named, up_to, rises_from, place_of, place_behind};
 
 use crate::search::Search;
 use crate::slot::{Event, Slot, Source};
@@ -21,6 +21,52 @@ pub fn slot_at(slots: &HeapCircularBuffer<Slot>, at: usize) -> &Slot
     }
 }
 
+/// How many of the oldest slots are below the row, by halving.
+fn halved(slots: &HeapCircularBuffer<Slot>, row: u64) -> usize
+    requires { IsTrue (rises_from 0 slots.now.items) }
+    ensures { result ≡ place_of row slots.now.items }
+{
+    let mut low = 0;
+    let mut high = slots.len();
+    'halves: while low < high {
+        let middle = low + (high - low) / 2;
+        let slot = slot_at(slots, middle);
+        if slot.station.row < row {
+            low = middle + 1;
+        } else {
+            high = middle;
+        }
+    }
+    low
+}
+
+/// How many of the oldest slots are below the row.
+fn place_of(slots: &HeapCircularBuffer<Slot>, row: u64) -> usize
+    requires { IsTrue (rises_from 0 slots.now.items) }
+    ensures { result ≡ place_of row slots.now.items }
+{
+    let first = match slots.front() {
+        Some(slot) => slot.station.row,
+        None => 0,
+    };
+    let guess = row.saturating_sub(first) as usize; // where no row between them was dropped
+    match slots.get(guess) {
+        Some(slot) if slot.station.row == row => guess,
+        _ => halved(slots, row),
+    }
+}
+
+/// How many of the oldest slots are below the row, if there is one.
+fn place_behind(slots: &HeapCircularBuffer<Slot>, after: Option<u64>) -> usize
+    requires { IsTrue (rises_from 0 slots.now.items) }
+    ensures { result ≡ place_behind after slots.now.items }
+{
+    match after {
+        Some(row) => place_of(slots, row),
+        None => 0,
+    }
+}
+
 /// The least row of these slots, the oldest first, that is above a number and passes.
 fn least_among(slots: &[Slot], what: Search, after: Option<u64>) -> Option<u64>
     ensures { result ≡ least_of what after slots.now }
@@ -35,27 +81,28 @@ fn least_among(slots: &[Slot], what: Search, after: Option<u64>) -> Option<u64>
 
 /// The least row above a number that passes.
 pub fn least(slots: &HeapCircularBuffer<Slot>, what: Search, after: Option<u64>) -> Option<u64>
+    requires { IsTrue (rises_from 0 slots.now.items) }
     ensures { result ≡ least_of what after slots.now.items }
 {
+    let from = place_behind(slots, after);
     let (older, newer) = slots.as_slices();
-    match least_among(older, what, after) {
-        Some(row) => Some(row),
-        None => least_among(newer, what, after),
+    if from < older.len() {
+        match least_among(older.split_at(from).1, what, after) {
+            Some(row) => Some(row),
+            None => least_among(newer, what, after),
+        }
+    } else {
+        least_among(newer.split_at(from - older.len()).1, what, after)
     }
 }
 
 /// The slot of a live row.
 pub fn named(slots: &HeapCircularBuffer<Slot>, row: u64) -> &Slot
-    requires { IsTrue (list_any (slot_named row) slots.now.items) }
+    requires live { IsTrue (list_any (slot_named row) slots.now.items) }
+    requires rises { IsTrue (rises_from 0 slots.now.items) }
     ensures { find (slot_named row) slots.now.items ≡ Some result.now }
 {
-    for at in 0..slots.len() {
-        let slot = slot_at(slots, at);
-        if slot.station.row == row {
-            return slot;
-        }
-    }
-    unreachable!()
+    slot_at(slots, place_of(slots, row))
 }
 
 /// What a reader of the place behind all slots waits for: the newest that writes it.
@@ -139,9 +186,11 @@ fn note_from_at(slots: &mut HeapCircularBuffer<Slot>, at: usize, row: u64, event
 
 /// Tells the slots from a row on what happens to it.
 pub fn note_from(slots: &mut HeapCircularBuffer<Slot>, row: u64, event: &Event)
+    requires { IsTrue (rises_from 0 slots.old.items) }
     ensures { slots.new ≡ buffer (map (λ x. if nat_lt x.station.row row then x else slot_after event.now x) slots.old.items) slots.old.capacity }
 {
-    for at in 0..slots.len() {
+    let from = place_of(slots, row);
+    for at in from..slots.len() {
         note_from_at(slots, at, row, event);
     }
 }

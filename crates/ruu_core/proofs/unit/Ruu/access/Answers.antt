@@ -1,6 +1,10 @@
 use Rattle.ruu_core.proofs.Calls.{access_sound, access_returns}
 use Rattle.ruu_core.proofs.Stays.{access_from}
+use Rattle.ruu_core.proofs.Places.{rows_rise}
 use Rattle.ruu_core.proofs.unit.Ruu.access.Goals as goal
+
+pub note_from-requires : goal.note_from-requires
+note_from-requires c = rows_rise c.self.inside.last c.self.inside.slots.items c.self.invariant.rises
 
 pub invariant_of-self : goal.invariant_of-self
 invariant_of-self c =

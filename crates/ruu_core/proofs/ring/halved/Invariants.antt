@@ -1,0 +1,13 @@
+use Rattle.std.proofs.Common.{◌≤◌, ◌-◌, length}
+use Rattle.ruu_core.specs.Slots.{place_of}
+use Rattle.ruu_core.proofs.ring.halved.Given as goal
+
+abbrev pub invariant-halves : goal.invariant-halves
+invariant-halves l = record {
+  low : l.low ≤ place_of l.row l.slots.items;
+  high : place_of l.row l.slots.items ≤ l.high;
+  within : l.high ≤ length l.slots.items;
+}
+
+abbrev pub decreases-halves : goal.decreases-halves
+decreases-halves l = l.high - l.low
