@@ -5,8 +5,15 @@ use Rattle.ecoff_load.specs.declared.fault.ObjectFault.{ObjectFault}
 use Rattle.ecoff_load.specs.declared.fault.ObjectFault.TheVariants as object_fault
 use Rattle.ecoff_load.specs.declared.fault.Refusal.{Refusal as Misfit}
 use Rattle.ecoff_load.specs.declared.image.Image.{Image}
+use Rattle.ecoff_load.specs.declared.image.Text.{Text}
 use Rattle.ecoff_load.specs.Object.{IsObject}
 use Rattle.ecoff_load.specs.Checks.{refusal}
+use Rattle.checkpoint.specs.declared.fault.PointFault.{PointFault}
+use Rattle.checkpoint.specs.declared.fault.PointFault.TheVariants as point_fault
+use Rattle.checkpoint.specs.State.{PointState}
+use Rattle.checkpoint.specs.Held.{state_held, fit}
+use Rattle.checkpoint.specs.Reading.{checked as checked_point}
+use Rattle.sim_safe.specs.State.{State, start_state}
 use Rattle.event_trace.specs.declared.fault.TraceFault.{TraceFault}
 use Rattle.event_trace.specs.declared.fault.TraceFault.TheVariants as trace_fault
 use Rattle.event_trace.specs.declared.fault.TraceWhy.TheVariants as why
@@ -56,6 +63,38 @@ JudgesObject bytes o Next =
     ((bad : Misfit) × (refusal bytes ≡ Some bad) × (o ≡ refused (answer.Object bad.at bad.why)))
     ⊎ ((image : Image) × IsObject bytes image × Next image)
 
+-- the state that a point which was read holds beside a text, unless a check with the text fails
+abbrev pub held_beside : Result (Unit {0}) PointFault → PointState → Text → Result State PointFault
+held_beside (Ok x) p text = Ok (state_held p text)
+held_beside (Err e) p text = Err e
+
+abbrev pub held_by : Result PointState PointFault → Text → Result State PointFault
+held_by (Ok p) text = held_beside (fit p text) p text
+held_by (Err e) text = Err e
+
+-- the state that the bytes of a point hold beside a text, or the first check that fails: those of the bytes come first
+abbrev pub state_at : List ℕ → Text → Result State PointFault
+state_at bytes text = held_by (checked_point bytes) text
+
+-- a point is refused where a check fails, and else has a state
+abbrev pub JudgesHeld : Result State PointFault → Outcome Answer → (State → Type 0) → Type 0
+JudgesHeld (Ok s) o Next = Next s
+JudgesHeld (Err (point_fault.Bad at reason)) o Next = o ≡ refused (answer.Point at reason)
+JudgesHeld (Err point_fault.OutOfMemory) o Next = ⊥
+
+abbrev pub JudgesPoint : List ℕ → Image → Outcome Answer → (State → Type 0) → Type 0
+JudgesPoint bytes image o Next = JudgesHeld (state_at bytes image.text) o Next
+
+-- a run begins where its program starts with arguments, or with a point
+abbrev pub JudgesStart : Option (List ℕ) → Image → List (List ℕ) → Outcome Answer → (State → Type 0) → Type 0
+JudgesStart None image args o Next = Next (start_state image args)
+JudgesStart (Some bytes) image args o Next = JudgesPoint bytes image o Next
+
+-- the state that it begins with
+abbrev pub IsStart : Option (List ℕ) → Image → List (List ℕ) → State → Type 0
+IsStart None image args s = s ≡ start_state image args
+IsStart (Some bytes) image args s = state_at bytes image.text ≡ Ok s
+
 -- where a trace names its byte order; version 1 has none, and is told at its start
 abbrev pub order_place : Trace → ℕ
 order_place trace = if nat_eq trace.version 2 then 12 else 0
@@ -98,6 +137,10 @@ word_refusal word_fault.OutOfMemory = refusals.OutOfMemory
 abbrev pub object_refusal : ObjectFault → Refusal
 object_refusal (object_fault.Bad at reason) = refusals.Answer (answer.Object at reason)
 object_refusal object_fault.OutOfMemory = refusals.OutOfMemory
+
+abbrev pub point_refusal : PointFault → Refusal
+point_refusal (point_fault.Bad at reason) = refusals.Answer (answer.Point at reason)
+point_refusal point_fault.OutOfMemory = refusals.OutOfMemory
 
 abbrev pub trace_refusal : TraceFault → Refusal
 trace_refusal (trace_fault.Bad at reason) = refusals.Answer (answer.Trace at reason)

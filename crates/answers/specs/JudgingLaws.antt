@@ -1,16 +1,27 @@
 -- Laws of chains of judgements.
 use Rattle.std.proofs.Common.{◌≡◌, ◌≢◌, ◌⊎◌, ◌<◌, ◌-◌, ◌++◌, ℕ, zero, suc, Bool, true, false, List, [], ◌∷◌, length, get_or, Option, Some, None, Result, Ok, Err, refl, sym, ap, ◌∙◌, subst, ⊎_elim, inl, inr, arith}
-use Rattle.std.specs.Prelude.{map, String, Vec, slice_index}
+use Rattle.std.specs.Prelude.{map, String, Vec, slice_index, nat_eq, not, if◌then◌else◌}
 use Rattle.ecoff_load.specs.declared.fault.Refusal.{Refusal as Misfit}
 use Rattle.ecoff_load.specs.declared.image.Image.{Image}
+use Rattle.ecoff_load.specs.declared.image.Text.{Text}
 use Rattle.ecoff_load.specs.Object.{IsObject}
 use Rattle.ecoff_load.specs.Checks.{refusal}
 use Rattle.ecoff_load.proofs.Described.{image_of}
 use Rattle.ecoff_load.proofs.Exact.{read_as, is_only}
+use Rattle.checkpoint.specs.declared.fault.PointFault.{PointFault}
+use Rattle.checkpoint.specs.declared.fault.PointFault.TheVariants as point_fault
+use Rattle.checkpoint.specs.State.{PointState}
+use Rattle.checkpoint.specs.declared.fault.PointWhy.{PointWhy}
+use Rattle.checkpoint.specs.declared.fault.PointWhy.TheVariants as point_why
+use Rattle.checkpoint.specs.declared.point.Head.{Head}
+use Rattle.checkpoint.specs.Held.{state_held, order_place as point_order, stands, head_fit, text_fit, first_refusal, fit}
+use Rattle.paged_mem.specs.Memory.{byte_of}
+use Rattle.checkpoint.specs.Reading.{placed as placed_point, point_at, Refusal as PointStop}
+use Rattle.sim_safe.specs.State.{State, start_state}
 use Rattle.event_trace.specs.declared.fault.TraceFault.{TraceFault}
 use Rattle.event_trace.specs.declared.fault.TraceFault.TheVariants as trace_fault
 use Rattle.event_trace.specs.declared.trace.Trace.{Trace}
-use Rattle.event_trace.specs.Grammar.{absent_trace}
+use Rattle.event_trace.specs.Grammar.{absent_trace, order_number}
 use Rattle.event_trace.specs.declared.fault.TraceWhy.TheVariants as why
 use Rattle.event_trace.specs.Reading.{checked, placed, trace_at, Refusal as Stop}
 use Rattle.event_trace.specs.World.{File, files_of}
@@ -26,7 +37,7 @@ use Rattle.answers.specs.declared.answer.Answer.TheVariants as answer
 use Rattle.answers.specs.declared.refusal.Refusal.{Refusal}
 use Rattle.answers.specs.declared.refusal.Refusal.TheVariants as refusals
 use Rattle.answers.specs.Answer.{refused}
-use Rattle.answers.specs.Judging.{order_place, LoadsFile, LoadsNamed, LoadsEach, JudgesObject, JudgesOrder, JudgesRead, JudgesTrace, JudgesGiven, IsTraceOf, IsGiven, RefusesBy, Refuses}
+use Rattle.answers.specs.Judging.{held_beside, held_by, state_at, JudgesHeld, JudgesPoint, JudgesStart, IsStart, order_place, LoadsFile, LoadsNamed, LoadsEach, JudgesObject, JudgesOrder, JudgesRead, JudgesTrace, JudgesGiven, IsTraceOf, IsGiven, RefusesBy, Refuses}
 
 -- ---- what comes next may be said otherwise
 
@@ -57,6 +68,15 @@ object_map bytes o N M f x = ⊎_elim (λ h. inl h) (λ h. inr (h.0, h.1, f h.0 
 pub object_never : (bytes : List ℕ) (o : Outcome Answer) (M : Image → Type 0) → JudgesObject bytes o (λ _. ⊥) → JudgesObject bytes o M
 object_never bytes o M x = object_map bytes o (λ _. ⊥) M (λ image h. absurd h) x
 
+held_map : (held : Result State PointFault) (o : Outcome Answer) (N M : State → Type 0) → ((s : State) → N s → M s) → JudgesHeld held o N → JudgesHeld held o M
+held_map (Ok s) o N M f x = f s x
+held_map (Err (point_fault.Bad at reason)) o N M f x = x
+held_map (Err point_fault.OutOfMemory) o N M f x = x
+
+pub start_map : (point : Option (List ℕ)) (image : Image) (args : List (List ℕ)) (o : Outcome Answer) (N M : State → Type 0) → ((s : State) → N s → M s) → JudgesStart point image args o N → JudgesStart point image args o M
+start_map None image args o N M f x = f (start_state image args) x
+start_map (Some bytes) image args o N M f x = held_map (state_at bytes image.text) o N M f x
+
 pub order_map : (trace : Trace) (big : Bool) (o : Outcome Answer) (N M : Trace → Type 0) → ((t : Trace) → N t → M t) → JudgesOrder trace big o N → JudgesOrder trace big o M
 order_map trace big o N M f x = ⊎_elim (λ h. inl h) (λ h. inr (h.0, f trace h.1)) x
 
@@ -80,6 +100,10 @@ given_never calls big o M x = given_map calls big o (λ _. ⊥) M (λ t h. absur
 
 pub object_judged : (bytes : List ℕ) (o : Outcome Answer) (N : Image → Type 0) (image : Image) → IsObject bytes image → N image → JudgesObject bytes o N
 object_judged bytes o N image h x = inr (image, h, x)
+
+pub start_judged : (point : Option (List ℕ)) (image : Image) (args : List (List ℕ)) (o : Outcome Answer) (N : State → Type 0) (s : State) → IsStart point image args s → N s → JudgesStart point image args o N
+start_judged None image args o N s e x = subst N e x
+start_judged (Some bytes) image args o N s e x = let P : Result State PointFault → Type 0 = λ r. JudgesHeld r o N in subst P (sym e) x
 
 pub trace_judged : (bytes : List ℕ) (big : Bool) (o : Outcome Answer) (N : Trace → Type 0) (trace : Trace) → IsTraceOf bytes big trace → N trace → JudgesTrace bytes big o N
 trace_judged bytes big o N trace e x = let P : Result Trace TraceFault → Type 0 = λ r. JudgesRead r big o N in subst P (sym e.0) (inr (e.1, x))
@@ -154,6 +178,53 @@ object_some bytes N h some = elim (told_or_not (refusal bytes)) as (λ _. SomeOu
   | inr good ↦ let read = image_of bytes h good in let s = some read.0 read.1 in (s.0, inr (read.0, read.1, s.1))
 ]
 
+-- a check of a point fails at a place, or none does
+abbrev AnswersBad : Result (Unit {0}) PointFault → Type 0
+AnswersBad (Ok x) = Unit {0}
+AnswersBad (Err (point_fault.Bad at reason)) = Unit {0}
+AnswersBad (Err point_fault.OutOfMemory) = ⊥
+
+first_bad : (x y : Result (Unit {0}) PointFault) → AnswersBad x → AnswersBad y → AnswersBad (first_refusal x y)
+first_bad (Ok x) y h k = k
+first_bad (Err e) y h k = h
+
+three_bad : (a b c : Bool) (i j k : ℕ) (x y z : PointWhy)
+    → AnswersBad (if a then Err (point_fault.Bad i x) else if b then Err (point_fault.Bad j y) else if c then Err (point_fault.Bad k z) else Ok tt)
+three_bad true b c i j k x y z = tt
+three_bad false true c i j k x y z = tt
+three_bad false false true i j k x y z = tt
+three_bad false false false i j k x y z = tt
+
+head_bad : (h : Head) (text : Text) → AnswersBad (head_fit h text)
+unfolding head_fit
+head_bad h text =
+    three_bad (not (nat_eq (order_number h.big) (order_number text.big))) (not (nat_eq h.text_start text.start)) (not (nat_eq h.text_length (length text.bytes)))
+    (point_order h.version) 168 172 point_why.OtherOrder point_why.Text point_why.Text
+
+one_bad : (a : Bool) (k : ℕ) (z : PointWhy) → AnswersBad (if a then Ok tt else Err (point_fault.Bad k z))
+one_bad true k z = tt
+one_bad false k z = tt
+
+text_bad : (memory : ℕ → ℕ) (text : Text) → AnswersBad (text_fit memory text)
+unfolding text_fit
+text_bad memory text = one_bad (stands memory text.start text.bytes) 176 point_why.OtherText
+
+fit_bad : (p : PointState) (text : Text) → AnswersBad (fit p text)
+fit_bad p text = first_bad (head_fit p.head text) (text_fit (byte_of p.pages) text) (head_bad p.head text) (text_bad (byte_of p.pages) text)
+
+beside_some : (checks : Result (Unit {0}) PointFault) (p : PointState) (text : Text) (N : Outcome Answer → State → Type 0) → AnswersBad checks → ((s : State) → SomeOutcome (λ o. N o s)) → SomeOutcome (λ o. JudgesHeld (held_beside checks p text) o (N o))
+beside_some (Ok x) p text N h some = some (state_held p text)
+beside_some (Err (point_fault.Bad at reason)) p text N h some = (refused (answer.Point at reason), refl)
+beside_some (Err point_fault.OutOfMemory) p text N h some = absurd h
+
+held_some : (total : ℕ) (read : Result PointState PointStop) (text : Text) (N : Outcome Answer → State → Type 0) → ((s : State) → SomeOutcome (λ o. N o s)) → SomeOutcome (λ o. JudgesHeld (held_by (placed_point total read) text) o (N o))
+held_some total (Err e) text N some = (refused (answer.Point (total - e.left) e.why), refl)
+held_some total (Ok p) text N some = beside_some (fit p text) p text N (fit_bad p text) some
+
+pub start_some : (point : Option (List ℕ)) (image : Image) (args : List (List ℕ)) (N : Outcome Answer → State → Type 0) → ((s : State) → SomeOutcome (λ o. N o s)) → SomeOutcome (λ o. JudgesStart point image args o (N o))
+start_some None image args N some = some (start_state image args)
+start_some (Some bytes) image args N some = held_some (length bytes) (point_at bytes) image.text N some
+
 same_order : (a b : Bool) → (a ≡ b) ⊎ (a ≢ b)
 same_order true true = inl refl
 same_order true false = inr (λ e. cc)
@@ -214,6 +285,15 @@ object_once bytes o p N M f (inl a) (inl b) =
 object_once bytes o p N M f (inl a) (inr b) = not_refused (refusal bytes) a.0 (read_as bytes b.0 b.1).holds a.1
 object_once bytes o p N M f (inr a) (inl b) = not_refused (refusal bytes) b.0 (read_as bytes a.0 a.1).holds b.1
 object_once bytes o p N M f (inr a) (inr b) = f b.0 (subst N (one_image bytes a.0 b.0 a.1 b.1) a.2) b.2
+
+held_once : (held : Result State PointFault) (o p : Outcome Answer) (N M : State → Type 0) → ((s : State) → N s → M s → o ≡ p) → JudgesHeld held o N → JudgesHeld held p M → o ≡ p
+held_once (Ok s) o p N M f x y = f s x y
+held_once (Err (point_fault.Bad at reason)) o p N M f x y = x ∙ sym y
+held_once (Err point_fault.OutOfMemory) o p N M f x y = absurd x
+
+pub start_once : (point : Option (List ℕ)) (image : Image) (args : List (List ℕ)) (o p : Outcome Answer) (N M : State → Type 0) → ((s : State) → N s → M s → o ≡ p) → JudgesStart point image args o N → JudgesStart point image args p M → o ≡ p
+start_once None image args o p N M f x y = f (start_state image args) x y
+start_once (Some bytes) image args o p N M f x y = held_once (state_at bytes image.text) o p N M f x y
 
 order_once : (trace : Trace) (big : Bool) (o p : Outcome Answer) (N M : Trace → Type 0) → ((t : Trace) → N t → M t → o ≡ p) → JudgesOrder trace big o N → JudgesOrder trace big p M → o ≡ p
 order_once trace big o p N M f (inl a) (inl b) = a.1 ∙ sym b.1

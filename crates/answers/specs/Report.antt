@@ -4,6 +4,8 @@ use Rattle.sim_opts.specs.declared.words.WordWhy.{WordWhy}
 use Rattle.sim_opts.specs.declared.words.WordWhy.TheVariants as word
 use Rattle.ecoff_load.specs.declared.fault.ObjectWhy.{ObjectWhy}
 use Rattle.ecoff_load.specs.declared.fault.ObjectWhy.TheVariants as object
+use Rattle.checkpoint.specs.declared.fault.PointWhy.{PointWhy}
+use Rattle.checkpoint.specs.declared.fault.PointWhy.TheVariants as point
 use Rattle.event_trace.specs.declared.fault.TraceWhy.{TraceWhy}
 use Rattle.event_trace.specs.declared.fault.TraceWhy.TheVariants as trace
 use Rattle.ss_base.specs.declared.text_fault.TextWhy.{TextWhy}
@@ -43,6 +45,21 @@ object_why_text object.TextSize = codes "TextSize"
 object_why_text object.Range = codes "Range"
 object_why_text object.NoText = codes "NoText"
 object_why_text object.Overlap = codes "Overlap"
+
+abbrev pub point_why_text : PointWhy → List ℕ
+point_why_text point.Short = codes "Short"
+point_why_text point.Magic = codes "Magic"
+point_why_text point.Count = codes "Count"
+point_why_text point.Register = codes "Register"
+point_why_text point.Ended = codes "Ended"
+point_why_text point.Pages = codes "Pages"
+point_why_text point.ByteOrder = codes "ByteOrder"
+point_why_text point.Order = codes "Order"
+point_why_text point.ZeroPage = codes "ZeroPage"
+point_why_text point.Extra = codes "Extra"
+point_why_text point.OtherOrder = codes "OtherOrder"
+point_why_text point.Text = codes "Text"
+point_why_text point.OtherText = codes "OtherText"
 
 abbrev pub trace_why_text : TraceWhy → List ℕ
 trace_why_text trace.Short = codes "Short"
@@ -86,6 +103,7 @@ long_line name = codes "pisa: too-long " ++ name ++ codes "\n"
 abbrev pub fault_line : Answer → List ℕ
 fault_line (answer.Words at why) = refusal_line (codes "words") at (word_why_text why)
 fault_line (answer.Object at why) = refusal_line (codes "object") at (object_why_text why)
+fault_line (answer.Point at why) = refusal_line (codes "point") at (point_why_text why)
 fault_line (answer.Trace at why) = refusal_line (codes "trace") at (trace_why_text why)
 fault_line (answer.Text line why) = refusal_line (codes "text") line (text_why_text why)
 fault_line (answer.TooLong name) = long_line name
@@ -97,6 +115,6 @@ fault_line (answer.NotBuilt what) = []
 
 -- ---- statistics
 
--- the statistics of a run that skipped nothing: its counts, and how it ended at an address after some instructions
-unfoldable pub statistics_text : Statistics → RunEnd → ℕ → ℕ → List ℕ
-statistics_text counts end pc icnt = counts_text 0 counts ++ codes "sim_end " ++ end_text end pc icnt ++ codes "\n"
+-- the statistics of a run that skipped so many steps: the counts of the others, and how it ended at an address after some instructions
+unfoldable pub statistics_text : ℕ → Statistics → RunEnd → ℕ → ℕ → List ℕ
+statistics_text skipped counts end pc icnt = counts_text skipped counts ++ codes "sim_end " ++ end_text end pc icnt ++ codes "\n"

@@ -3,6 +3,10 @@ use Rattle.std.proofs.Common.{◌≡◌, ℕ, suc, arith, Bool, List, [], ◌∷
 use Rattle.std.specs.Prelude.{Contains}
 use Rattle.ecoff_load.specs.declared.fault.Refusal.{Refusal as Misfit}
 use Rattle.ecoff_load.specs.declared.image.Image.{Image}
+use Rattle.checkpoint.specs.declared.fault.PointFault.{PointFault}
+use Rattle.checkpoint.specs.declared.fault.PointFault.TheVariants as point_fault
+use Rattle.checkpoint.specs.declared.fault.PointWhy.{PointWhy}
+use Rattle.sim_safe.specs.State.{State, start_state}
 use Rattle.event_trace.specs.declared.fault.TraceFault.{TraceFault}
 use Rattle.event_trace.specs.declared.fault.TraceFault.TheVariants as trace_fault
 use Rattle.event_trace.specs.declared.fault.TraceWhy.{TraceWhy}
@@ -23,8 +27,8 @@ use Rattle.answers.specs.declared.answer.Answer.{Answer}
 use Rattle.answers.specs.declared.answer.Answer.TheVariants as answer
 use Rattle.answers.specs.Answer.{answered, refused, run_answer}
 use Rattle.answers.specs.Report.{fault_line}
-use Rattle.answers.specs.Judging.{LoadsFile, LoadsNamed, LoadsEach, JudgesObject, JudgesRead, JudgesGiven}
-use Rattle.answers.specs.Sound.{IsQuiet, NamesLong, IsBuilt, IsSound, names_of}
+use Rattle.answers.specs.Judging.{state_at, LoadsFile, LoadsNamed, LoadsEach, JudgesObject, JudgesHeld, JudgesStart, JudgesRead, JudgesGiven}
+use Rattle.answers.specs.Sound.{IsQuiet, NamesLong, IsBuilt, IsSound, names_of, with_point}
 
 -- ---- refusals
 
@@ -32,6 +36,7 @@ use Rattle.answers.specs.Sound.{IsQuiet, NamesLong, IsBuilt, IsSound, names_of}
 abbrev pub Refuses : List (List ℕ) → Answer → Type 0
 Refuses names (answer.TooLong name) = Contains names name
 Refuses names (answer.Object at why) = Unit {0}
+Refuses names (answer.Point at why) = Unit {0}
 Refuses names (answer.Trace at why) = Unit {0}
 Refuses names (answer.Text line why) = Unit {0}
 Refuses names (answer.Words at why) = ⊥
@@ -41,31 +46,51 @@ Refuses names (answer.Exited code) = ⊥
 Refuses names (answer.Stopped why pc icnt) = ⊥
 Refuses names answer.Budget = ⊥
 
-refused_with : (inputs : List Input) (a : Answer) → ((line : List ℕ) → IsQuiet a (Report line ∷ [])) → NamesLong (names_of inputs) a → IsBuilt a → IsSound inputs (refused a)
-refused_with inputs a quiet names built = record { quiet = quiet (fault_line a); names = names; built = built }
+-- ---- names of files
 
-pub refused_sound : (inputs : List Input) (a : Answer) → Refuses (names_of inputs) a → IsSound inputs (refused a)
-refused_sound inputs (answer.TooLong name) r = refused_with inputs (answer.TooLong name) (λ line. (λ e. cc, tt)) r tt
-refused_sound inputs (answer.Object at why) r = refused_with inputs (answer.Object at why) (λ line. (λ e. cc, tt)) tt tt
-refused_sound inputs (answer.Trace at why) r = refused_with inputs (answer.Trace at why) (λ line. (λ e. cc, tt)) tt tt
-refused_sound inputs (answer.Text line why) r = refused_with inputs (answer.Text line why) (λ line. (λ e. cc, tt)) tt tt
-refused_sound inputs (answer.Words at why) r = absurd r
-refused_sound inputs answer.Made r = absurd r
-refused_sound inputs (answer.NotBuilt what) r = absurd r
-refused_sound inputs (answer.Exited code) r = absurd r
-refused_sound inputs (answer.Stopped why pc icnt) r = absurd r
-refused_sound inputs answer.Budget r = absurd r
+pub first_named : (name : List ℕ) (names : List (List ℕ)) → Contains (name ∷ names) name
+first_named name names = (0, omega (arith), refl)
+
+pub later_named : (first name : List ℕ) (names : List (List ℕ)) → Contains names name → Contains (first ∷ names) name
+later_named first name names c = (suc c.0, omega (arith, c.1), c.2)
+
+-- a loaded file is one that is named beside a point, too
+beside_point : (point : Option (List ℕ)) (names : List (List ℕ)) (name : List ℕ) → Contains names name → Contains (with_point point names) name
+beside_point None names name c = c
+beside_point (Some file) names name c = later_named file name names c
+
+-- ---- refusals
+
+refused_with : (inputs : List Input) (point : Option (List ℕ)) (a : Answer) → ((line : List ℕ) → IsQuiet point a (Report line ∷ [])) → NamesLong (with_point point (names_of inputs)) a → IsBuilt a → IsSound inputs point (refused a)
+refused_with inputs point a quiet names built = record { quiet = quiet (fault_line a); names = names; built = built }
+
+pub refused_sound : (inputs : List Input) (point : Option (List ℕ)) (a : Answer) → Refuses (names_of inputs) a → IsSound inputs point (refused a)
+refused_sound inputs point (answer.TooLong name) r = refused_with inputs point (answer.TooLong name) (λ line. inr (λ e. cc, tt)) (beside_point point (names_of inputs) name r) tt
+refused_sound inputs point (answer.Object at why) r = refused_with inputs point (answer.Object at why) (λ line. (λ e. cc, tt)) tt tt
+refused_sound inputs point (answer.Point at why) r = refused_with inputs point (answer.Point at why) (λ line. (λ e. cc, tt)) tt tt
+refused_sound inputs point (answer.Trace at why) r = refused_with inputs point (answer.Trace at why) (λ line. (λ e. cc, tt)) tt tt
+refused_sound inputs point (answer.Text line why) r = refused_with inputs point (answer.Text line why) (λ line. (λ e. cc, tt)) tt tt
+refused_sound inputs point (answer.Words at why) r = absurd r
+refused_sound inputs point answer.Made r = absurd r
+refused_sound inputs point (answer.NotBuilt what) r = absurd r
+refused_sound inputs point (answer.Exited code) r = absurd r
+refused_sound inputs point (answer.Stopped why pc icnt) r = absurd r
+refused_sound inputs point answer.Budget r = absurd r
+
+-- a run whose point has too many pages ends there, and its output stays
+pub large_sound : (inputs : List Input) (name : List ℕ) (h : Journal) → IsSound inputs (Some name) (answered (answer.TooLong name) h)
+large_sound inputs name h = record { quiet = inl refl; names = first_named name (names_of inputs); built = tt }
 
 -- ---- what was made, and runs
 
-pub made_sound : (inputs : List Input) (h : Journal) → Lacks fault.Stat h → IsSound inputs (answered answer.Made h)
-made_sound inputs h quiet = record { quiet = quiet; names = tt; built = tt }
+pub made_sound : (inputs : List Input) (point : Option (List ℕ)) (h : Journal) → Lacks fault.Stat h → IsSound inputs point (answered answer.Made h)
+made_sound inputs point h quiet = record { quiet = quiet; names = tt; built = tt }
 
 -- the answer of a run is none of a refusal
-pub run_sound : (inputs : List Input) (end : RunEnd) (pc icnt : ℕ) (h : Journal) → IsSound inputs (answered (run_answer end pc icnt) h)
-run_sound inputs ends.Limit pc icnt h = record { quiet = tt; names = tt; built = tt }
-run_sound inputs (ends.Stop (cause.Exited code)) pc icnt h = record { quiet = tt; names = tt; built = tt }
-run_sound inputs (ends.Stop _) pc icnt h = record { quiet = tt; names = tt; built = tt }
+pub run_sound : (inputs : List Input) (point : Option (List ℕ)) (end : RunEnd) (pc icnt : ℕ) (h : Journal) → IsSound inputs point (answered (run_answer end pc icnt) h)
+run_sound inputs point ends.Limit pc icnt h = record { quiet = tt; names = tt; built = tt }
+run_sound inputs point (ends.Stop (cause.Exited code)) pc icnt h = record { quiet = tt; names = tt; built = tt }
+run_sound inputs point (ends.Stop _) pc icnt h = record { quiet = tt; names = tt; built = tt }
 
 -- ---- a fact of every outcome of a chain
 
@@ -99,6 +124,17 @@ pub object_all : (P : Outcome Answer → Type 0) (bytes : List ℕ) (o : Outcome
 object_all P bytes o N bad next (inl x) = subst P (sym x.2) (bad x.0)
 object_all P bytes o N bad next (inr x) = next x.0 x.2
 
+held_all : (P : Outcome Answer → Type 0) (held : Result State PointFault) (o : Outcome Answer) (N : State → Type 0)
+    → ((at : ℕ) (why : PointWhy) → P (refused (answer.Point at why))) → ((s : State) → N s → P o) → JudgesHeld held o N → P o
+held_all P (Ok s) o N bad next x = next s x
+held_all P (Err (point_fault.Bad at reason)) o N bad next x = subst P (sym x) (bad at reason)
+held_all P (Err point_fault.OutOfMemory) o N bad next x = absurd x
+
+pub start_all : (P : Outcome Answer → Type 0) (point : Option (List ℕ)) (image : Image) (args : List (List ℕ)) (o : Outcome Answer) (N : State → Type 0)
+    → ((at : ℕ) (why : PointWhy) → P (refused (answer.Point at why))) → ((s : State) → N s → P o) → JudgesStart point image args o N → P o
+start_all P None image args o N bad next x = next (start_state image args) x
+start_all P (Some bytes) image args o N bad next x = held_all P (state_at bytes image.text) o N bad next x
+
 read_all : (P : Outcome Answer → Type 0) (read : Result Trace TraceFault) (big : Bool) (o : Outcome Answer) (N : Trace → Type 0)
     → ((at : ℕ) (why : TraceWhy) → P (refused (answer.Trace at why))) → ((trace : Trace) → N trace → P o) → JudgesRead read big o N → P o
 read_all P (Err (trace_fault.Bad at reason)) big o N bad next x = subst P (sym x) (bad at reason)
@@ -111,13 +147,7 @@ pub given_all : (P : Outcome Answer → Type 0) (calls : Option (List ℕ)) (big
 given_all P None big o N bad next x = next absent_trace x
 given_all P (Some bytes) big o N bad next x = read_all P (checked bytes) big o N bad next x
 
--- ---- names of files
-
-pub first_named : (name : List ℕ) (names : List (List ℕ)) → Contains (name ∷ names) name
-first_named name names = (0, omega (arith), refl)
-
-pub later_named : (first name : List ℕ) (names : List (List ℕ)) → Contains names name → Contains (first ∷ names) name
-later_named first name names c = (suc c.0, omega (arith, c.1), c.2)
+-- ---- names of several files
 
 -- each of some names is among them, and among more
 each_later : (first : List ℕ) (names all : List (List ℕ)) → EachOf names (Contains all) → EachOf names (Contains (first ∷ all))

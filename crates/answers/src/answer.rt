@@ -2,6 +2,7 @@
 ghost use Rattle.std.specs.Prelude.{◌≡◌};
 ghost use Rattle.answers.specs.Answer.{stop_answer, run_answer};
 
+use checkpoint::PointWhy;
 use ecoff_load::ObjectWhy;
 use event_trace::TraceWhy;
 use pisa_step::Cause;
@@ -12,7 +13,7 @@ use ss_base::{Name, TextWhy};
 /// What is not built yet.
 #[derive(Clone, Copy, Debug, PartialEq, Eq)]
 pub enum Unbuilt {
-    /// The command that the words name, or a point of a run.
+    /// The command that the words name.
     Words,
 }
 
@@ -27,6 +28,8 @@ pub enum Answer {
     Words { at: u32, why: WordWhy },
     /// The object is refused at this place of its file, counted from 0.
     Object { at: u64, why: ObjectWhy },
+    /// The point is refused at this place of its file, counted from 0.
+    Point { at: u64, why: PointWhy },
     /// The trace is refused at this place of its file, counted from 0.
     Trace { at: u64, why: TraceWhy },
     /// The run stopped at `pc`, after `icnt` instructions.
@@ -36,7 +39,8 @@ pub enum Answer {
     /// The source is refused at this line, counted from 1, or as a whole at 0, or the configuration at
     /// this line.
     Text { line: u32, why: TextWhy },
-    /// The file of this name is longer than it may be.
+    /// The file of this name is longer than it may be, or is that of a point which would have too many
+    /// pages.
     TooLong { name: Name },
     /// What was asked for is not built yet.
     NotBuilt { what: Unbuilt },

@@ -1,13 +1,16 @@
-//! What the bytes of objects and traces stand for, or why a command refuses them.
-ghost use Rattle.std.specs.Prelude.{◌≡◌, IfOk, true};
+//! What the bytes of objects, points and traces stand for, or why a command refuses them.
+ghost use Rattle.std.specs.Prelude.{◌≡◌, ◌≤◌, ◌^◌, IfOk, Ok, true};
 ghost use Rattle.ecoff_load.specs.Object.{IsImage, IsObject};
 ghost use Rattle.sim_safe.specs.Record.{IsRunTrace};
-ghost use Rattle.answers.specs.Judging.{order_place, Judges, JudgesOrder, JudgesObject, JudgesTrace, IsTraceOf};
+ghost use Rattle.sim_safe.specs.State.{state_of};
+ghost use Rattle.answers.specs.Judging.{order_place, state_at, Judges, JudgesOrder, JudgesObject, JudgesPoint, JudgesTrace, IsTraceOf};
 
 use crate::answer::Answer;
 use crate::refusal::Refusal;
 use ecoff_load::Image;
 use event_trace::{Trace, TraceWhy};
+use sim_safe::Arch;
+use ss_base::Bytes;
 use std::alloc::Global;
 
 /// Judges an object.
@@ -17,6 +20,24 @@ pub fn judge_object(alloc: Global, object: &[u8]) -> Result<Image, Refusal>
 {
     match ecoff_load::read(alloc, object) {
         Ok(image) => Ok(image),
+        Err(fault) => Err(Refusal::from(fault)),
+    }
+}
+
+/// Judges a point beside an object, and gives the machine that goes on from it. The bytes are let go
+/// before its memory is made.
+pub fn judge_point(alloc: Global, bytes: Bytes, image: Image) -> Result<Arch, Refusal>
+    requires { IsImage image }
+    ensures judged { Judges result (λ a. state_at bytes image.text ≡ Ok (state_of a)) (λ o. JudgesPoint bytes image o (λ _. ⊥)) }
+    ensures count { IfOk result (λ a. a.icnt ≤ 10 ^ 15) }
+{
+    let point = match checkpoint::read(alloc, bytes.as_slice()) {
+        Ok(point) => point,
+        Err(fault) => return Err(Refusal::from(fault)),
+    };
+    drop(bytes);
+    match checkpoint::restore(alloc, point, image) {
+        Ok(arch) => Ok(arch),
         Err(fault) => Err(Refusal::from(fault)),
     }
 }

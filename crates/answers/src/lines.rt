@@ -1,8 +1,9 @@
 //! The lines with which commands refuse.
 ghost use Rattle.std.specs.Prelude.{◌≡◌, ◌++◌, OnOk, codes};
-ghost use Rattle.answers.specs.Report.{word_why_text, object_why_text, trace_why_text, text_why_text, refusal_line, fault_line};
+ghost use Rattle.answers.specs.Report.{word_why_text, object_why_text, point_why_text, trace_why_text, text_why_text, refusal_line, fault_line};
 
 use crate::answer::Answer;
+use checkpoint::PointWhy;
 use ecoff_load::ObjectWhy;
 use event_trace::TraceWhy;
 use sim_opts::WordWhy;
@@ -44,6 +45,27 @@ fn object_why_name(why: ObjectWhy) -> &'static str
         ObjectWhy::Range => "Range",
         ObjectWhy::NoText => "NoText",
         ObjectWhy::Overlap => "Overlap",
+    }
+}
+
+/// The name of a reason for which a point is refused.
+fn point_why_name(why: PointWhy) -> &'static str
+    ensures { result.now ≡ point_why_text why }
+{
+    match why {
+        PointWhy::Short => "Short",
+        PointWhy::Magic => "Magic",
+        PointWhy::Count => "Count",
+        PointWhy::Register => "Register",
+        PointWhy::Ended => "Ended",
+        PointWhy::Pages => "Pages",
+        PointWhy::ByteOrder => "ByteOrder",
+        PointWhy::Order => "Order",
+        PointWhy::ZeroPage => "ZeroPage",
+        PointWhy::Extra => "Extra",
+        PointWhy::OtherOrder => "OtherOrder",
+        PointWhy::Text => "Text",
+        PointWhy::OtherText => "OtherText",
     }
 }
 
@@ -128,6 +150,7 @@ pub fn push_fault_line(into: &mut Vec<u8>, answer: &Answer) -> Result<(), OutOfM
             push_refusal(into, "words", u64::from(*at), word_why_name(*why))
         }
         Answer::Object { at, why } => push_refusal(into, "object", *at, object_why_name(*why)),
+        Answer::Point { at, why } => push_refusal(into, "point", *at, point_why_name(*why)),
         Answer::Trace { at, why } => push_refusal(into, "trace", *at, trace_why_name(*why)),
         Answer::Text { line, why } => {
             push_refusal(into, "text", u64::from(*line), text_why_name(*why))

@@ -2,12 +2,13 @@
 ghost use Rattle.std.specs.Prelude.{◌≡◌, IfOk};
 ghost use Rattle.journal.specs.Outcome.{Ends};
 ghost use Rattle.answers.specs.Answer.{refused};
-ghost use Rattle.answers.specs.Judging.{word_refusal, object_refusal, trace_refusal, text_refusal, Refuses};
+ghost use Rattle.answers.specs.Judging.{word_refusal, object_refusal, point_refusal, trace_refusal, text_refusal, Refuses};
 ghost use Rattle.answers.specs.declared.refusal.Refusal.TheVariants as refusals;
 
 use crate::answer::Answer;
 use crate::lines::push_fault_line;
 use crate::report::put_answer;
+use checkpoint::PointFault;
 use ecoff_load::ObjectFault;
 use event_trace::TraceFault;
 use journal::{Fault, Outside};
@@ -42,6 +43,17 @@ impl From<ObjectFault> for Refusal {
         match fault {
             ObjectFault::Bad { at, why } => Refusal::Answer(Answer::Object { at, why }),
             ObjectFault::OutOfMemory => Refusal::OutOfMemory,
+        }
+    }
+}
+
+impl From<PointFault> for Refusal {
+    ghost from_gives = { λ fault refusal. refusal ≡ point_refusal fault };
+
+    fn from(fault: PointFault) -> Refusal {
+        match fault {
+            PointFault::Bad { at, why } => Refusal::Answer(Answer::Point { at, why }),
+            PointFault::OutOfMemory => Refusal::OutOfMemory,
         }
     }
 }

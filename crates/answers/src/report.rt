@@ -22,38 +22,41 @@ pub fn put_answer<O: Outside>(text: &[u8], answer: Answer, outside: &mut O) -> R
     }
 }
 
-/// Adds the statistics of a run that ended at `pc`, after `icnt` instructions.
+/// Adds the statistics of a run that skipped so many steps first and ended at `pc`, after `icnt`
+/// instructions.
 #[tactic(auto, unfolding(crate::specs::Report::statistics_text))]
 fn push_statistics(
     into: &mut Vec<u8>,
+    skipped: u64,
     statistics: &Statistics,
     end: RunEnd,
     pc: u32,
     icnt: u64,
 ) -> Result<(), OutOfMemory>
-    ensures { OnOk result (into.new.items ≡ into.old.items ++ statistics_text statistics.now end pc icnt) }
+    ensures { OnOk result (into.new.items ≡ into.old.items ++ statistics_text skipped statistics.now end pc icnt) }
 {
-    statistics.push(0, into)?;
+    statistics.push(skipped, into)?;
     push_text(into, "sim_end ")?;
     push_end(into, end, pc, icnt)?;
     push_text(into, "\n")
 }
 
-/// Reports a run that ended so at `pc`, after `icnt` instructions: its statistics go to the second
-/// stream.
+/// Reports a run that skipped so many steps first and ended so at `pc`, after `icnt` instructions: its
+/// statistics, of the steps that weren't skipped, go to the second stream.
 #[tactic(auto, using(journal::specs::Laws::gave_up_none))]
 pub fn report_run<O: Outside>(
     alloc: Global,
     end: RunEnd,
+    skipped: u64,
     statistics: &Statistics,
     pc: u32,
     icnt: u64,
     outside: &mut O,
 ) -> Result<Answer, Fault>
-    ensures { Ends O.view outside.old (answered (run_answer end pc icnt) (Report (statistics_text statistics.now end pc icnt) ∷ [])) outside.new result }
+    ensures { Ends O.view outside.old (answered (run_answer end pc icnt) (Report (statistics_text skipped statistics.now end pc icnt) ∷ [])) outside.new result }
 {
     let mut text = Vec::new(alloc);
-    match push_statistics(&mut text, statistics, end, pc, icnt) {
+    match push_statistics(&mut text, skipped, statistics, end, pc, icnt) {
         Ok(()) => put_answer(text.as_slice(), answer_of_run(end, pc, icnt), outside),
         Err(_) => Err(Fault::OutOfMemory),
     }

@@ -37,6 +37,7 @@ fn answers_are_told(alloc: Global) -> Result<bool, Fail> {
     let run = report_run(
         alloc,
         RunEnd::Limit,
+        5,
         &Statistics::none(),
         0,
         0,
@@ -54,7 +55,7 @@ fn answers_are_told(alloc: Global) -> Result<bool, Fail> {
             && matches!(&long, Ok(Answer::TooLong { name }) if name.as_str() == "big")
             && matches!(&run, Ok(Answer::Budget))
             && stat.bytes().starts_with(
-                b"pisa: words 4 Extra\npisa: object 0 Short\npisa: too-long big\nsim_skipped 0\n".as_slice(),
+                b"pisa: words 4 Extra\npisa: object 0 Short\npisa: too-long big\nsim_skipped 5\n".as_slice(),
             )
             && prog.bytes().is_empty(),
     )

@@ -1,5 +1,5 @@
 -- Laws of what `asm` and `dis` come to.
-use Rattle.std.proofs.Common.{◌≡◌, ℕ, zero, suc, List, [], ◌∷◌, Result, Ok, Err, sym, ◌∙◌, subst, ⊎_elim, inl, inr}
+use Rattle.std.proofs.Common.{◌≡◌, ℕ, zero, suc, List, [], ◌∷◌, Result, Ok, Err, sym, ◌∙◌, subst, ⊎_elim, inl, inr, None}
 use Rattle.ecoff_load.specs.declared.image.Image.{Image}
 use Rattle.ecoff_load.specs.declared.image.Text.{Text}
 use Rattle.ss_base.specs.declared.text_fault.AsmFault.{AsmFault}
@@ -125,18 +125,18 @@ source_all P (Err fault.OutOfMemory) o N bad next x = absurd x
 source_all P (Ok image) o N bad next (inl x) = subst P (sym x.1) (bad 0 why.Layout)
 source_all P (Ok image) o N bad next (inr x) = next image x.1
 
-pub asm_sound : (source object : List ℕ) (limit : ℕ) (loaded : List Found) (o : Outcome Answer) → AsmOutcome source object loaded o → IsSound (input source limit ∷ []) o
+pub asm_sound : (source object : List ℕ) (limit : ℕ) (loaded : List Found) (o : Outcome Answer) → AsmOutcome source object loaded o → IsSound (input source limit ∷ []) None o
 asm_sound source object limit loaded o x =
     let files = input source limit ∷ [] in
-    let P : Outcome Answer → Type 0 = IsSound files in
-    file_all P source loaded o (λ bytes _. JudgesSource (described bytes) o (λ image. o ≡ object_made object image)) (refused_sound files (answer.TooLong source) (first_named source []))
-    (λ bytes _. source_all P (described bytes) o (λ image. o ≡ object_made object image) (λ line reason. refused_sound files (answer.Text line reason) tt)
-    (λ image e. subst P (sym e) (made_sound files _ (λ d. cc, (λ d. cc, tt))))) x
+    let P : Outcome Answer → Type 0 = IsSound files None in
+    file_all P source loaded o (λ bytes _. JudgesSource (described bytes) o (λ image. o ≡ object_made object image)) (refused_sound files None (answer.TooLong source) (first_named source []))
+    (λ bytes _. source_all P (described bytes) o (λ image. o ≡ object_made object image) (λ line reason. refused_sound files None (answer.Text line reason) tt)
+    (λ image e. subst P (sym e) (made_sound files None _ (λ d. cc, (λ d. cc, tt))))) x
 
-pub dis_sound : (object : List ℕ) (limit : ℕ) (loaded : List Found) (o : Outcome Answer) → DisOutcome object loaded o → IsSound (input object limit ∷ []) o
+pub dis_sound : (object : List ℕ) (limit : ℕ) (loaded : List Found) (o : Outcome Answer) → DisOutcome object loaded o → IsSound (input object limit ∷ []) None o
 dis_sound object limit loaded o x =
     let files = input object limit ∷ [] in
-    let P : Outcome Answer → Type 0 = IsSound files in
-    file_all P object loaded o (λ program _. JudgesObject program o (λ image. o ≡ listing_made image.text)) (refused_sound files (answer.TooLong object) (first_named object []))
-    (λ program _. object_all P program o (λ image. o ≡ listing_made image.text) (λ bad. refused_sound files (answer.Object bad.at bad.why) tt)
-    (λ image e. subst P (sym e) (made_sound files _ (pieces_lack image.text _)))) x
+    let P : Outcome Answer → Type 0 = IsSound files None in
+    file_all P object loaded o (λ program _. JudgesObject program o (λ image. o ≡ listing_made image.text)) (refused_sound files None (answer.TooLong object) (first_named object []))
+    (λ program _. object_all P program o (λ image. o ≡ listing_made image.text) (λ bad. refused_sound files None (answer.Object bad.at bad.why) tt)
+    (λ image e. subst P (sym e) (made_sound files None _ (pieces_lack image.text _)))) x

@@ -17,6 +17,7 @@ fn other_words(alloc: Global, ending: &Ending) -> Result<String, LineFault> {
         Ending::Words { at, why } => format!(in alloc; "words {at} {why:?}"),
         Ending::Object { at, why } => format!(in alloc; "object {at} {why:?}"),
         Ending::Trace { at, why } => format!(in alloc; "trace {at} {why:?}"),
+        Ending::Point { at, why } => format!(in alloc; "point {at} {why:?}"),
         Ending::Text { line, why } => format!(in alloc; "text {line} {why:?}"),
         Ending::TooLong { name } => format!(in alloc; "too-long {}", name.as_str()),
         Ending::NotBuilt { what } => format!(in alloc; "not-built {what:?}"),

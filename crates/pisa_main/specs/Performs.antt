@@ -9,7 +9,7 @@ use Rattle.journal.specs.Clauses.{Gets, IfAnswered}
 use Rattle.sim_main.specs.declared.ending.Ending.{Ending}
 use Rattle.sim_main.specs.declared.ending.Ending.TheVariants as ends
 use Rattle.sim_main.specs.Ending.{answer_of, status_of}
-use Rattle.sim_main.specs.Answer.{CameBy, AnswersBy, EndsByWords, Counts, Quiet}
+use Rattle.sim_main.specs.Answer.{CameBy, AnswersBy, EndsByWords, Counts, Quiet, HoldsOfPoint}
 
 -- why words could not be collected: memory ran out, or one of them is no text
 abbrev pub wants_memory : ErrorKind → Bool
@@ -33,7 +33,7 @@ pub record Ends {P R : Type 0} (prog_tells : P → Type 0) (prog_contents : P �
   pub outcome : IfAnswered (answer_of e) (λ a. AnswersBy ⊥ (λ _. None) words a (λ o. Gets prog_tells prog_contents prog prog_now (output_of o.writes) × Gets stat_tells stat_contents stat stat_now (report_of o.writes)))
   pub by_words : EndsByWords ⊥ (λ _. None) words e
   pub count : (shelf : ℕ × ℕ) × Counts (shelf.0, prog_faults prog, stat_faults stat) (shelf.1, prog_faults prog_now, stat_faults stat_now) e
-  pub quiet : Quiet (prog_faults prog) (prog_faults prog_now) prog prog_now stat stat_now e
+  pub quiet : HoldsOfPoint ⊥ (λ _. None) words (λ point. Quiet point (prog_faults prog) (prog_faults prog_now) prog prog_now stat stat_now e)
   pub memory : stat_tells stat → e ≡ ends.OutOfMemory → stat_contents stat_now ≡ stat_contents stat
 
 -- a status is that of an ending, which holds

@@ -1,5 +1,6 @@
 pub mod Runs
 pub mod Replaying
 mod Breaks
+mod Launches
 mod Named
 mod Recordings

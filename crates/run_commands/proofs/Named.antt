@@ -14,7 +14,8 @@ use Rattle.answers.specs.declared.answer.Answer.{Answer}
 use Rattle.answers.specs.declared.answer.Answer.TheVariants as answer
 use Rattle.answers.specs.Answer.{refused}
 use Rattle.answers.specs.Judging.{LoadsNamed}
-use Rattle.run_commands.specs.Outcome.{named_input, trace_text}
+use Rattle.run_commands.specs.Program.{named_input}
+use Rattle.run_commands.specs.Outcome.{trace_text}
 
 -- a file that is named was found
 pub named_found : {O : Type 0} (v : View O) (a b c : O) (limit : ℕ) (t : Option (List ℕ)) (name bytes : List ℕ) (others : List Input) (Next : Option (List ℕ) → List Found → Outcome Answer → Type 0) (r : Result Answer Fault) → t ≡ Some name

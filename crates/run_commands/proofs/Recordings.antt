@@ -19,7 +19,8 @@ use Rattle.answers.specs.declared.answer.Answer.TheVariants as answer
 use Rattle.answers.specs.Answer.{refused}
 use Rattle.answers.specs.JudgingLaws.{object_judged, each_loaded, each_long}
 use Rattle.run_commands.specs.declared.world.Enclosed.{Enclosed}
-use Rattle.run_commands.specs.Outcome.{input_limit, named_input, object_limit, opened_inputs, world_of}
+use Rattle.run_commands.specs.Program.{named_input, object_limit}
+use Rattle.run_commands.specs.Outcome.{input_limit, opened_inputs, world_of}
 use Rattle.run_commands.specs.Replay.{IsRecorded}
 use Rattle.run_commands.specs.Parts.{GivenRecords, LoadedRecords, ObjectRecords, RecordingOutcomeOf, enclosed, made_for, names_in, record_inputs_of, recorded_of}
 use Rattle.run_commands.proofs.Named.{named_found, named_long, named_unloaded}

@@ -1,5 +1,5 @@
 -- A recording is replayed from the file that it wrote.
-use Rattle.std.proofs.Common.{◌≡◌, ℕ, ◌≤◌, ◌++◌, Bool, true, false, List, [], ◌∷◌, length, Option, Some, None, Result, Ok, Err, refl, sym, ap, ◌∙◌, inr, arith}
+use Rattle.std.proofs.Common.{◌≡◌, ℕ, ◌≤◌, ◌++◌, Bool, true, false, List, [], ◌∷◌, length, Option, Some, None, Result, Ok, Err, refl, sym, ap, ◌∙◌, subst, inr, arith}
 use Rattle.std.specs.Prelude.{nat_le, if◌then◌else◌, OnOk}
 use Rattle.std.proofs.lemmas.Bool.Decides.{nat_tests}
 use Rattle.ecoff_load.specs.declared.image.Image.{Image}
@@ -27,8 +27,11 @@ use Rattle.journal.specs.Laws.{output_more, report_more}
 use Rattle.answers.specs.declared.answer.Answer.{Answer}
 use Rattle.answers.specs.Answer.{run_answer}
 use Rattle.answers.specs.JudgingLaws.{given_judged}
-use Rattle.run_commands.specs.Outcome.{SimSafeOutcome, trace_limit, ran, ran_for, recorded, recorded_for, ran_answer, ran_report, start_of, step_limit, trace_made, trace_text}
-use Rattle.run_commands.specs.Replay.{EndsAgain, IsReplayed, IsRecorded, made_by}
+use Rattle.cut_run.specs.Plan.{limited}
+use Rattle.run_commands.specs.Program.{trace_limit}
+use Rattle.run_commands.specs.Outcome.{SimSafeOutcome, asked_of, end_answer, end_report, ran, recorded, recorded_for, start_of, trace_made, trace_text}
+use Rattle.run_commands.specs.Plain.{plain_ran, ran_for}
+use Rattle.run_commands.specs.Replay.{EndsAgain, IsReplayed, IsRecorded, made_by, replay_of, replayed_by}
 use Rattle.run_commands.specs.OutcomeLaws.{start_output, start_report}
 
 -- ---- the trace of a recording
@@ -68,46 +71,55 @@ ran_output made n s out commits =
     let is = items_of made.0 n s in
     output_more (run_journal commits is) (start_of commits) ∙ ap (λ x. x ++ output_of (run_journal commits is)) (start_output commits) ∙ run_output commits None is ∙ sym (output_more (run_journal None is) (Start out ∷ []))
 
-reported : (made : Trace) (end : RunEnd) (n : ℕ) (s : State) (h : Journal) → report_of h ≡ [] → report_of h ++ ran_report made end n s ≡ ran_report made end n s
-reported made end n s h e = ap (λ x. x ++ ran_report made end n s) e
+-- the statistics of steps over a trace that end so
+abbrev told : Trace → RunEnd → ℕ → State → List ℕ
+told trace end n s = end_report 0 (items_of trace n s) end (after trace n s)
 
-ran_reports : (trace : Trace) (end : RunEnd) (n : ℕ) (s : State) (commits : Option (List ℕ)) (is : List Item) → report_of (run_journal commits is ++ start_of commits) ++ ran_report trace end n s ≡ ran_report trace end n s
-ran_reports trace end n s commits is =
-    reported trace end n s (run_journal commits is ++ start_of commits) (report_more (run_journal commits is) (start_of commits) ∙ ap (λ x. x ++ report_of (run_journal commits is)) (start_report commits) ∙ run_report commits is)
+reported : (report : List ℕ) (h : Journal) → report_of h ≡ [] → report_of h ++ report ≡ report
+reported report h e = ap (λ x. x ++ report) e
 
-recorded_reports : (made : Trace) (end : RunEnd) (n : ℕ) (s : State) (out : List ℕ) (is : List Item) → report_of (run_journal None is ++ Start out ∷ []) ++ ran_report made end n s ≡ ran_report made end n s
-recorded_reports made end n s out is = reported made end n s (run_journal None is ++ Start out ∷ []) (report_more (run_journal None is) (Start out ∷ []) ∙ run_report None is)
+ran_reports : (report : List ℕ) (commits : Option (List ℕ)) (is : List Item) → report_of (run_journal commits is ++ start_of commits) ++ report ≡ report
+ran_reports report commits is =
+    reported report (run_journal commits is ++ start_of commits) (report_more (run_journal commits is) (start_of commits) ∙ ap (λ x. x ++ report_of (run_journal commits is)) (start_report commits) ∙ run_report commits is)
+
+recorded_reports : (report out : List ℕ) (is : List Item) → report_of (run_journal None is ++ Start out ∷ []) ++ report ≡ report
+recorded_reports report out is = reported report (run_journal None is ++ Start out ∷ []) (report_more (run_journal None is) (Start out ∷ []) ∙ run_report None is)
 
 ends_again : (made : Trace × Bool) (full : Bool) (n : ℕ) (s : State) (out : List ℕ) (commits : Option (List ℕ)) → made.1 ≡ full → (full ≡ true → (used : ℕ) × (end_of made.0 n s ≡ ends.Stop (cause.TraceEnd used)))
     → EndsAgain full made.0 n s (recorded_for made n s out) (ran_for made.0 n s commits)
-unfolding ran_answer
+unfolding end_answer
 ends_again made false n s out commits e stops =
     let is = items_of made.0 n s in
     let end : Bool → RunEnd = λ b. if b then ends.Limit else end_of made.0 n s in (
-      ap (λ (b : Bool). ran_answer made.0 (end b) n s) (sym e),
-      ran_reports made.0 (end_of made.0 n s) n s commits is ∙ ap (λ (b : Bool). ran_report made.0 (end b) n s) (sym e) ∙ sym (recorded_reports made.0 (end made.1) n s out is),
+      ap (λ (b : Bool). end_answer (end b) (after made.0 n s)) (sym e),
+      ran_reports (told made.0 (end_of made.0 n s) n s) commits is ∙ ap (λ (b : Bool). told made.0 (end b) n s) (sym e) ∙ sym (recorded_reports (told made.0 (end made.1) n s) out is),
     )
 ends_again made true n s out commits e stops =
     let is = items_of made.0 n s in
     let end : Bool → RunEnd = λ b. if b then ends.Limit else end_of made.0 n s in
     let k = stops refl in (
-      ap (λ (b : Bool). ran_answer made.0 (end b) n s) e,
-      recorded_reports made.0 (end made.1) n s out is ∙ ap (λ (b : Bool). ran_report made.0 (end b) n s) e,
+      ap (λ (b : Bool). end_answer (end b) (after made.0 n s)) e,
+      recorded_reports (told made.0 (end made.1) n s) out is ∙ ap (λ (b : Bool). told made.0 (end b) n s) e,
       k.0,
       ap (λ (x : RunEnd). run_answer x (after made.0 n s).pc (after made.0 n s).icnt) k.1,
-      ran_reports made.0 (end_of made.0 n s) n s commits is ∙ ap (λ (x : RunEnd). ran_report made.0 x n s) k.1,
+      ran_reports (told made.0 (end_of made.0 n s) n s) commits is ∙ ap (λ (x : RunEnd). told made.0 x n s) k.1,
     )
 
 -- sim-safe over a trace file of the object's byte order
-replayed_by : (t : Trace) (out : List ℕ) (max_inst : ℕ) (object : List ℕ) (args : List (List ℕ)) (program : List ℕ) (image : Image) (commits : Option (List ℕ))
+replay_has : (t : Trace) (out : List ℕ) (max_inst : ℕ) (object : List ℕ) (args : List (List ℕ)) (program : List ℕ) (image : Image) (commits : Option (List ℕ))
     → IsObject program image → IsTrace t → t.big ≡ image.text.big
-    → SimSafeOutcome commits (Some out) max_inst object args (found.Whole program ∷ found.Whole (trace_text t) ∷ []) (ran t max_inst (start_state image args) commits)
+    → SimSafeOutcome (replay_of out max_inst object args commits) (found.Whole program ∷ found.Whole (trace_text t) ∷ []) (replayed_by t out max_inst object args image commits)
 unfolding trace_text
-replayed_by t out max_inst object args program image commits is fits big =
-    let o : Outcome Answer = ran t max_inst (start_state image args) commits in
-    let Ends : Trace → Type 0 = λ given. o ≡ ran given max_inst (start_state image args) commits in
+replay_has t out max_inst object args program image commits is fits big =
+    let o : Outcome Answer = replayed_by t out max_inst object args image commits in
+    let Ends : Trace → Type 0 = λ given. o ≡ ran given (asked_of (replay_of out max_inst object args commits)) (start_state image args) in
     let known : checked (trace_bytes t) ≡ Ok t = is_only (trace_bytes t) t fits refl in
     inr (image, is, given_judged (Some (trace_bytes t)) image.text.big o Ends t (known, big) refl)
+
+-- and what it comes to
+replay_is : (t : Trace) (out : List ℕ) (max_inst : ℕ) (object : List ℕ) (args : List (List ℕ)) (image : Image) (commits : Option (List ℕ))
+    → ran_for t (limited (start_state image args) max_inst) (start_state image args) commits ≡ replayed_by t out max_inst object args image commits
+replay_is t out max_inst object args image commits = sym (plain_ran t (start_state image args) max_inst commits)
 
 reads_again : (t : Trace) → IsTrace t → checked (trace_text t) ≡ Ok t
 unfolding trace_text
@@ -118,15 +130,18 @@ pub is_replayed : (out : List ℕ) (max_inst : ℕ) (object : List ℕ) (args : 
     → IsObject program image → IsTrace (made_by image world max_inst args).0 → IsReplayed out max_inst object args program image world (made_by image world max_inst args)
 is_replayed out max_inst object args program image world is fits =
     let s : State = start_state image args in
-    let n : ℕ = step_limit s max_inst in
+    let n : ℕ = limited s max_inst in
     let big : Bool = image.text.big in
     let made : Trace × Bool = trace_made world big n s in
     record {
       size = made_size world big n s;
       reads = reads_again made.0 fits;
-      replayed = λ commits. replayed_by made.0 out max_inst object args program image commits is fits (made_big world big n s);
-      output = λ commits. ran_output made n s out commits;
-      ends = λ commits. ends_again made made.1 n s out commits refl (made_stops world big n s);
+      replayed = λ commits. replay_has made.0 out max_inst object args program image commits is fits (made_big world big n s);
+      output = λ commits.
+          let put : List ℕ = output_of (recorded_for made n s out).writes in
+          subst (λ (o : Outcome Answer). output_of o.writes ≡ put) (replay_is made.0 out max_inst object args image commits) (ran_output made n s out commits);
+      ends = λ commits.
+          subst (λ (o : Outcome Answer). EndsAgain made.1 made.0 n s (recorded_for made n s out) o) (replay_is made.0 out max_inst object args image commits) (ends_again made made.1 n s out commits refl (made_stops world big n s));
     }
 
 -- so it is where a recording answers

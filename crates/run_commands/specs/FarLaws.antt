@@ -5,6 +5,8 @@ use Rattle.std.proofs.Math.Seq.{take-length}
 use Rattle.ss_base.specs.Outside.{Files, BeginsWith}
 use Rattle.ss_base.specs.Begins.{begins_front}
 use Rattle.ecoff_load.specs.declared.image.Image.{Image}
+use Rattle.checkpoint.specs.declared.fault.PointFault.{PointFault}
+use Rattle.checkpoint.specs.declared.fault.PointFault.TheVariants as point_fault
 use Rattle.event_trace.specs.declared.fault.TraceFault.{TraceFault}
 use Rattle.event_trace.specs.declared.fault.TraceFault.TheVariants as trace_fault
 use Rattle.event_trace.specs.declared.trace.Trace.{Trace}
@@ -16,7 +18,7 @@ use Rattle.sim_safe.specs.State.{State, start_state}
 use Rattle.sim_safe.specs.Record.{Item}
 use Rattle.sim_safe.specs.Commit.{output_of as output_of_item, outputs_of, onto}
 use Rattle.sim_safe.specs.Recording.{serve}
-use Rattle.sim_safe.specs.Run.{items_of, items_front, end_of}
+use Rattle.sim_safe.specs.Run.{items_of, items_front, after, end_of}
 use Rattle.sim_watch.specs.Watch.{last_piece, run_journal, written_of}
 use Rattle.sim_watch.proofs.Items.{onto_append, written_grow}
 use Rattle.sim_watch.proofs.Texts.{run_outputs, written_outputs}
@@ -31,10 +33,14 @@ use Rattle.journal.specs.Laws.{output_more}
 use Rattle.answers.specs.declared.answer.Answer.{Answer}
 use Rattle.answers.specs.declared.answer.Answer.TheVariants as answer
 use Rattle.answers.specs.Answer.{refused}
-use Rattle.answers.specs.Judging.{LoadsFile, LoadsNamed, LoadsEach, JudgesObject, JudgesRead, JudgesGiven}
-use Rattle.run_commands.specs.Outcome.{SimSafeOutcome, RecordOutcome, ran, ran_for, ran_report, recorded, recorded_end, recorded_for, start_of, step_limit, trace_made, trace_text, world_of}
-use Rattle.run_commands.specs.Far.{CameToLimit}
-use Rattle.run_commands.specs.OutcomeLaws.{ran_proper, recorded_proper, start_output}
+use Rattle.answers.specs.Judging.{state_at, LoadsFile, LoadsNamed, LoadsEach, JudgesObject, JudgesHeld, JudgesStart, JudgesRead, JudgesGiven}
+use Rattle.cut_run.specs.Plan.{Asked, limited}
+use Rattle.sim_opts.specs.Request.{Run}
+use Rattle.run_commands.specs.Program.{ProgramOutcome}
+use Rattle.run_commands.specs.Outcome.{SimSafeOutcome, RecordOutcome, AreApart, asked_of, ran, end_report, recorded, recorded_end, recorded_for, start_of, trace_made, trace_text, world_of}
+use Rattle.run_commands.specs.Far.{CameToFront, CameToLimit, RunCame, RunCameBy, with_most}
+use Rattle.run_commands.specs.Plain.{plain, plain_ran, ran_for}
+use Rattle.run_commands.specs.OutcomeLaws.{ran_proper, recorded_proper, sim_safe_proper, start_output}
 use Rattle.run_commands.specs.Prefixes.{recording_first}
 
 -- ---- where a write stands in two lists joined
@@ -187,7 +193,7 @@ steps_grow trace s file start quiet = record {
 }
 
 -- up to n steps are all done within their limit
-within_limit : (s : State) (max_inst k : ℕ) → k ≤ step_limit s max_inst → step_limit s k ≡ k
+within_limit : (s : State) (max_inst k : ℕ) → k ≤ limited s max_inst → limited s k ≡ k
 within_limit s max_inst k l = omega (arith, l)
 
 ran_output : (trace : Trace) (n : ℕ) (s : State) (commits : Option (List ℕ)) → output_of (ran_for trace n s commits).writes ≡ outputs_of (items_of trace n s)
@@ -195,27 +201,44 @@ ran_output trace n s commits =
     let is = items_of trace n s in
     output_more (run_journal commits is) (start_of commits) ∙ ap (λ x. x ++ output_of (run_journal commits is)) (start_output commits) ∙ run_outputs commits is
 
-ran_limits : (Has : ℕ → Outcome Answer → Type 0) (trace : Trace) (max_inst : ℕ) (s : State) (commits : Option (List ℕ)) → ((k : ℕ) → Has k (ran trace k s commits))
-    → Limits Has (λ k. ran trace k s commits) (steps_journal trace s commits (start_of commits)) (steps_outputs trace s) (step_limit s max_inst)
+-- up to n steps that are all done within the limit of a run
+abbrev plain_run : Trace → ℕ → State → Option (List ℕ) → Outcome Answer
+plain_run trace n s commits = ran_for trace (limited s n) s commits
+
+no_point : (commits : Option (List ℕ)) → AreApart commits None
+no_point None = tt
+no_point (Some file) = tt
+
+plain_starts : (trace : Trace) (n : ℕ) (s : State) (commits : Option (List ℕ)) → StartsFiles (plain_run trace n s commits).writes
+plain_starts trace n s commits = subst (λ (o : Outcome Answer). StartsFiles o.writes) (plain_ran trace s n commits) (ran_proper trace (plain n commits) s (no_point commits)).starts
+
+ran_limits : (Has : ℕ → Outcome Answer → Type 0) (trace : Trace) (max_inst : ℕ) (s : State) (commits : Option (List ℕ)) → ((k : ℕ) → Has k (plain_run trace k s commits))
+    → Limits Has (λ k. plain_run trace k s commits) (steps_journal trace s commits (start_of commits)) (steps_outputs trace s) (limited s max_inst)
 ran_limits Has trace max_inst s commits has = record {
   has = has;
-  top = λ k. Report (ran_report trace (end_of trace k s) k s) ∷ last_piece commits (written_of commits [] (onto (items_of trace k s) [])).pending;
+  top = λ k. Report (end_report 0 (items_of trace k s) (end_of trace k s) (after trace k s)) ∷ last_piece commits (written_of commits [] (onto (items_of trace k s) [])).pending;
   writes = λ k l.
       let w = written_of commits [] (onto (items_of trace k s) []) in
-      ap (λ (m : ℕ). (ran_for trace m s commits).writes) (within_limit s max_inst k l) ∙ ap (λ h. Report (ran_report trace (end_of trace k s) k s) ∷ h) (append_assoc (last_piece commits w.pending) w.journal (start_of commits));
-  starts = λ k. (ran_proper trace (step_limit s k) s commits).starts;
+      ap (λ (m : ℕ). (ran_for trace m s commits).writes) (within_limit s max_inst k l) ∙ ap (λ h. Report (end_report 0 (items_of trace k s) (end_of trace k s) (after trace k s)) ∷ h) (append_assoc (last_piece commits w.pending) w.journal (start_of commits));
+  starts = λ k. plain_starts trace k s commits;
   output = λ k l. ap (λ (m : ℕ). output_of (ran_for trace m s commits).writes) (within_limit s max_inst k l) ∙ ran_output trace k s commits;
 }
 
--- a run that gave up came to one number of steps
-pub run_far : (Has : ℕ → Outcome Answer → Type 0) (trace : Trace) (max_inst : ℕ) (s : State) (commits : Option (List ℕ)) → ((k : ℕ) → Has k (ran trace k s commits))
-    → (old new : Files) (before now : List ℕ) → CameTo (ran trace max_inst s commits).writes old new before now → CameToLimit Has max_inst old new before now
-run_far Has trace max_inst s commits has old new before now q =
-    let n = step_limit s max_inst in
-    let same : step_limit s n ≡ n = within_limit s max_inst n (omega arith) in
+plain_far : (Has : ℕ → Outcome Answer → Type 0) (trace : Trace) (max_inst : ℕ) (s : State) (commits : Option (List ℕ)) → ((k : ℕ) → Has k (plain_run trace k s commits))
+    → (old new : Files) (before now : List ℕ) → CameTo (plain_run trace max_inst s commits).writes old new before now → CameToLimit Has max_inst old new before now
+plain_far Has trace max_inst s commits has old new before now q =
+    let n = limited s max_inst in
+    let same : limited s n ≡ n = within_limit s max_inst n (omega arith) in
     let q2 = subst (λ (m : ℕ). CameTo (ran_for trace m s commits).writes old new before now) (sym same) q in
     further_limit Has n max_inst old new before now (omega arith)
-    (far Has (λ k. ran trace k s commits) (steps_journal trace s commits (start_of commits)) (steps_outputs trace s) n (steps_grow trace s commits (start_of commits) (start_output commits)) (ran_limits Has trace max_inst s commits has) old new before now q2)
+    (far Has (λ k. plain_run trace k s commits) (steps_journal trace s commits (start_of commits)) (steps_outputs trace s) n (steps_grow trace s commits (start_of commits) (start_output commits)) (ran_limits Has trace max_inst s commits has) old new before now q2)
+
+-- a run that skips nothing, leaves no point and gave up came to one number of steps
+pub run_far : (Has : ℕ → Outcome Answer → Type 0) (trace : Trace) (max_inst : ℕ) (s : State) (commits : Option (List ℕ)) → ((k : ℕ) → Has k (ran trace (plain k commits) s))
+    → (old new : Files) (before now : List ℕ) → CameTo (ran trace (plain max_inst commits) s).writes old new before now → CameToLimit Has max_inst old new before now
+run_far Has trace max_inst s commits has old new before now q =
+    plain_far Has trace max_inst s commits (λ k. subst (λ (o : Outcome Answer). Has k o) (plain_ran trace s k commits) (has k)) old new before now
+    (subst (λ (o : Outcome Answer). CameTo o.writes old new before now) (plain_ran trace s max_inst commits) q)
 
 -- ---- runs that are recorded
 
@@ -227,18 +250,18 @@ same_items : (world : WorldState) (big : Bool) (k n : ℕ) (s : State) → k ≤
 same_items world big k n s l = recording_first serve k n world (empty_trace big) s refl l
 
 recorded_limits : (Has : ℕ → Outcome Answer → Type 0) (world : WorldState) (big : Bool) (max_inst : ℕ) (s : State) (out : List ℕ) → ((k : ℕ) → Has k (recorded world big k s out))
-    → Limits Has (λ k. recorded world big k s out) (steps_journal (trace_made world big (step_limit s max_inst) s).0 s None (Start out ∷ [])) (steps_outputs (trace_made world big (step_limit s max_inst) s).0 s) (step_limit s max_inst)
+    → Limits Has (λ k. recorded world big k s out) (steps_journal (trace_made world big (limited s max_inst) s).0 s None (Start out ∷ [])) (steps_outputs (trace_made world big (limited s max_inst) s).0 s) (limited s max_inst)
 recorded_limits Has world big max_inst s out has =
-    let n = step_limit s max_inst in
+    let n = limited s max_inst in
     let whole : Trace = (trace_made world big n s).0 in
     record {
       has = has;
-      top = λ k. let made = trace_made world big k s in Report (ran_report made.0 (recorded_end made k s) k s) ∷ Append out (trace_text made.0) ∷ [];
+      top = λ k. let made = trace_made world big k s in Report (end_report 0 (items_of made.0 k s) (recorded_end made k s) (after made.0 k s)) ∷ Append out (trace_text made.0) ∷ [];
       writes = λ k l.
           let made = trace_made world big k s in
           ap (λ (m : ℕ). (recorded_for (trace_made world big m s) m s out).writes) (within_limit s max_inst k l)
-          ∙ ap (λ (is : List Item). Report (ran_report made.0 (recorded_end made k s) k s) ∷ Append out (trace_text made.0) ∷ (written_of None [] (onto is [])).journal ++ Start out ∷ []) (same_items world big k n s l);
-      starts = λ k. (recorded_proper (trace_made world big (step_limit s k) s) (step_limit s k) s out).starts;
+          ∙ ap (λ (is : List Item). Report (end_report 0 (items_of made.0 k s) (recorded_end made k s) (after made.0 k s)) ∷ Append out (trace_text made.0) ∷ (written_of None [] (onto is [])).journal ++ Start out ∷ []) (same_items world big k n s l);
+      starts = λ k. (recorded_proper (trace_made world big (limited s k) s) (limited s k) s out).starts;
       output = λ k l.
           ap (λ (m : ℕ). output_of (recorded_for (trace_made world big m s) m s out).writes) (within_limit s max_inst k l) ∙ recorded_output (trace_made world big k s) k s out ∙ ap outputs_of (same_items world big k n s l);
     }
@@ -247,9 +270,9 @@ recorded_limits Has world big max_inst s out has =
 pub recording_far : (Has : ℕ → Outcome Answer → Type 0) (world : WorldState) (big : Bool) (max_inst : ℕ) (s : State) (out : List ℕ) → ((k : ℕ) → Has k (recorded world big k s out))
     → (old new : Files) (before now : List ℕ) → CameTo (recorded world big max_inst s out).writes old new before now → CameToLimit Has max_inst old new before now
 recording_far Has world big max_inst s out has old new before now q =
-    let n = step_limit s max_inst in
+    let n = limited s max_inst in
     let whole : Trace = (trace_made world big n s).0 in
-    let same : step_limit s n ≡ n = within_limit s max_inst n (omega arith) in
+    let same : limited s n ≡ n = within_limit s max_inst n (omega arith) in
     let q2 = subst (λ (m : ℕ). CameTo (recorded_for (trace_made world big m s) m s out).writes old new before now) (sym same) q in
     further_limit Has n max_inst old new before now (omega arith)
     (far Has (λ k. recorded world big k s out) (steps_journal whole s None (Start out ∷ [])) (steps_outputs whole s) n (steps_grow whole s None (Start out ∷ []) refl) (recorded_limits Has world big max_inst s out has) old new before now q2)
@@ -310,6 +333,21 @@ object_far Has n old new before now bytes o N lift q next (inl bad) =
     refused_far Has n (answer.Object bad.0.at bad.0.why) o (λ k. lift k (refused (answer.Object bad.0.at bad.0.why)) (inl (bad.0, bad.1, refl))) bad.2 old new before now q
 object_far Has n old new before now bytes o N lift q next (inr x) = next x.0 (λ k p y. lift k p (inr (x.0, x.1, y))) x.2
 
+held_far : (Has : ℕ → Outcome Answer → Type 0) (n : ℕ) (old new : Files) (before now : List ℕ) (held : Result State PointFault) (o : Outcome Answer) (N : ℕ → Outcome Answer → State → Type 0)
+    → ((k : ℕ) (p : Outcome Answer) → JudgesHeld held p (N k p) → Has k p) → CameTo o.writes old new before now
+    → ((s : State) → ((k : ℕ) (p : Outcome Answer) → N k p s → Has k p) → N n o s → CameToLimit Has n old new before now)
+    → JudgesHeld held o (N n o) → CameToLimit Has n old new before now
+held_far Has n old new before now (Ok s) o N lift q next x = next s lift x
+held_far Has n old new before now (Err (point_fault.Bad at reason)) o N lift q next x = refused_far Has n (answer.Point at reason) o (λ k. lift k (refused (answer.Point at reason)) refl) x old new before now q
+held_far Has n old new before now (Err point_fault.OutOfMemory) o N lift q next x = absurd x
+
+start_far : (Has : ℕ → Outcome Answer → Type 0) (n : ℕ) (old new : Files) (before now : List ℕ) (point : Option (List ℕ)) (image : Image) (args : List (List ℕ)) (o : Outcome Answer) (N : ℕ → Outcome Answer → State → Type 0)
+    → ((k : ℕ) (p : Outcome Answer) → JudgesStart point image args p (N k p) → Has k p) → CameTo o.writes old new before now
+    → ((s : State) → ((k : ℕ) (p : Outcome Answer) → N k p s → Has k p) → N n o s → CameToLimit Has n old new before now)
+    → JudgesStart point image args o (N n o) → CameToLimit Has n old new before now
+start_far Has n old new before now None image args o N lift q next x = next (start_state image args) lift x
+start_far Has n old new before now (Some bytes) image args o N lift q next x = held_far Has n old new before now (state_at bytes image.text) o N lift q next x
+
 read_far : (Has : ℕ → Outcome Answer → Type 0) (n : ℕ) (old new : Files) (before now : List ℕ) (read : Result Trace TraceFault) (big : Bool) (o : Outcome Answer) (N : ℕ → Outcome Answer → Trace → Type 0)
     → ((k : ℕ) (p : Outcome Answer) → JudgesRead read big p (N k p) → Has k p) → CameTo o.writes old new before now
     → ((given : Trace) → ((k : ℕ) (p : Outcome Answer) → N k p given → Has k p) → N n o given → CameToLimit Has n old new before now)
@@ -326,20 +364,61 @@ given_far : (Has : ℕ → Outcome Answer → Type 0) (n : ℕ) (old new : Files
 given_far Has n old new before now None big o N lift q next x = next absent_trace lift x
 given_far Has n old new before now (Some bytes) big o N lift q next x = read_far Has n old new before now (checked bytes) big o N lift q next x
 
+-- ---- programs
+
+program_far : (Has : ℕ → Outcome Answer → Type 0) (n : ℕ) (old new : Files) (before now : List ℕ) (r : Run) (loaded : List Found) (o : Outcome Answer) (N : ℕ → Outcome Answer → Trace → State → Type 0)
+    → ((k : ℕ) (p : Outcome Answer) → ProgramOutcome r loaded p (N k p) → Has k p) → CameTo o.writes old new before now
+    → ((given : Trace) (s : State) → ((k : ℕ) (p : Outcome Answer) → N k p given s → Has k p) → N n o given s → CameToLimit Has n old new before now)
+    → ProgramOutcome r loaded o (N n o) → CameToLimit Has n old new before now
+program_far Has n old new before now r loaded o N lift q next x =
+    let Starts : ℕ → Outcome Answer → Option (List ℕ) → Option (List ℕ) → Image → Type 0 = λ k p point calls image. JudgesStart point image r.args p (λ s. JudgesGiven calls image.text.big p (λ given. N k p given s)) in
+    let Reads : ℕ → Outcome Answer → List ℕ → Option (List ℕ) → Option (List ℕ) → Type 0 = λ k p program point calls. JudgesObject program p (λ image. Starts k p point calls image) in
+    file_far Has n old new before now r.object loaded o (λ k p program others. LoadsNamed r.restart others p (λ point more. LoadsNamed r.trace more p (λ calls _. Reads k p program point calls))) lift q
+    (λ program others lift1. named_far Has n old new before now r.restart others o (λ k p point more. LoadsNamed r.trace more p (λ calls _. Reads k p program point calls)) lift1 q
+    (λ point more lift2. named_far Has n old new before now r.trace more o (λ k p calls _. Reads k p program point calls) lift2 q
+    (λ calls rest lift3. object_far Has n old new before now program o (λ k p image. Starts k p point calls image) lift3 q
+    (λ image lift4. start_far Has n old new before now point image r.args o (λ k p s. JudgesGiven calls image.text.big p (λ given. N k p given s)) lift4 q
+    (λ s lift5. given_far Has n old new before now calls image.text.big o (λ k p given. N k p given s) lift5 q
+    (λ given lift6. next given s lift6))))))
+    x
+
 -- ---- commands
 
-pub sim_safe_far : (commits trace : Option (List ℕ)) (max_inst : ℕ) (object : List ℕ) (args : List (List ℕ)) (loaded : List Found) (o : Outcome Answer) (old new : Files) (before now : List ℕ)
-    → SimSafeOutcome commits trace max_inst object args loaded o → CameTo o.writes old new before now → CameToLimit (λ limit p. SimSafeOutcome commits trace limit object args loaded p) max_inst old new before now
-sim_safe_far commits trace max_inst object args loaded o old new before now x q =
-    let Has : ℕ → Outcome Answer → Type 0 = λ limit p. SimSafeOutcome commits trace limit object args loaded p in
-    let Ends : ℕ → Outcome Answer → Image → Trace → Type 0 = λ k p image given. p ≡ ran given k (start_state image args) commits in
-    let Reads : ℕ → Outcome Answer → List ℕ → Option (List ℕ) → Type 0 = λ k p program calls. JudgesObject program p (λ image. JudgesGiven calls image.text.big p (λ given. Ends k p image given)) in
-    file_far Has max_inst old new before now object loaded o (λ k p program others. LoadsNamed trace others p (λ calls _. Reads k p program calls)) (λ k p y. y) q
-    (λ program others lift. named_far Has max_inst old new before now trace others o (λ k p calls _. Reads k p program calls) lift q
-    (λ calls rest lift2. object_far Has max_inst old new before now program o (λ k p image. JudgesGiven calls image.text.big p (λ given. Ends k p image given)) lift2 q
-    (λ image lift3. given_far Has max_inst old new before now calls image.text.big o (λ k p given. Ends k p image given) lift3 q
-    (λ given lift4 e. run_far Has given max_inst (start_state image args) commits (λ k. lift4 k (ran given k (start_state image args) commits) refl) old new before now (subst (λ (y : Outcome Answer). CameTo y.writes old new before now) e q)))))
+-- one outcome says how far a command came that gave up
+pub came_to_front : (Has : Outcome Answer → Type 0) (o : Outcome Answer) (old new : Files) (before now : List ℕ) → Has o → StartsFiles o.writes → CameTo o.writes old new before now → CameToFront Has old new before now
+came_to_front Has o old new before now has starts q = record {
+  outcome = o;
+  has = has;
+  files = came_files o.writes old new before now starts q;
+  output = came_output o.writes old new before now q;
+}
+
+-- what is asked of a run that skips nothing and leaves no point
+plainly_asked : (r : Run) (k : ℕ) → 0 ≡ r.skip → None ≡ r.point → asked_of (with_most r k) ≡ plain k r.commits
+plainly_asked r k e f =
+    ap (λ (x : ℕ). let a : Asked = record { skip = x; most = k; commits = r.commits; point = r.point } in a) (sym e)
+    ∙ ap (λ (p : Option (List ℕ × ℕ)). let a : Asked = record { skip = 0; most = k; commits = r.commits; point = p } in a) (sym f)
+
+plain_came : (r : Run) (loaded : List Found) (o : Outcome Answer) (old new : Files) (before now : List ℕ) → 0 ≡ r.skip → None ≡ r.point
+    → SimSafeOutcome r loaded o → CameTo o.writes old new before now → CameToLimit (λ limit p. SimSafeOutcome (with_most r limit) loaded p) r.most old new before now
+plain_came r loaded o old new before now e f x q =
+    let Has : ℕ → Outcome Answer → Type 0 = λ limit p. SimSafeOutcome (with_most r limit) loaded p in
+    let same : (k : ℕ) → asked_of (with_most r k) ≡ plain k r.commits = λ k. plainly_asked r k e f in
+    program_far Has r.most old new before now r loaded o (λ k p given s. p ≡ ran given (asked_of (with_most r k)) s) (λ k p y. y) q
+    (λ given s lift is.
+    run_far Has given r.most s r.commits (λ k. lift k (ran given (plain k r.commits) s) (ap (λ (a : Asked). ran given a s) (sym (same k)))) old new before now
+    (subst (λ (y : Outcome Answer). CameTo y.writes old new before now) (is ∙ ap (λ (a : Asked). ran given a s) (same r.most)) q))
     x
+
+run_came : (skip : ℕ) (point : Option (List ℕ × ℕ)) (r : Run) (loaded : List Found) (o : Outcome Answer) (old new : Files) (before now : List ℕ) → skip ≡ r.skip → point ≡ r.point → AreApart r.commits r.point
+    → SimSafeOutcome r loaded o → CameTo o.writes old new before now → RunCameBy skip point r loaded old new before now
+run_came zero None r loaded o old new before now e f apart x q = plain_came r loaded o old new before now e f x q
+run_came zero (Some p) r loaded o old new before now e f apart x q = came_to_front (SimSafeOutcome r loaded) o old new before now x (sim_safe_proper r loaded o apart x).starts q
+run_came (suc n) point r loaded o old new before now e f apart x q = came_to_front (SimSafeOutcome r loaded) o old new before now x (sim_safe_proper r loaded o apart x).starts q
+
+-- how far a run came that gave up, where its commit text and its point go to two files
+pub sim_safe_far : (r : Run) (loaded : List Found) (o : Outcome Answer) (old new : Files) (before now : List ℕ) → AreApart r.commits r.point → SimSafeOutcome r loaded o → CameTo o.writes old new before now → RunCame r loaded old new before now
+sim_safe_far r loaded o old new before now apart x q = run_came r.skip r.point r loaded o old new before now refl refl apart x q
 
 pub record_far : (out : List ℕ) (given : Option (List ℕ)) (files : List (List ℕ)) (max_inst : ℕ) (object : List ℕ) (args : List (List ℕ)) (loaded : List Found) (o : Outcome Answer) (old new : Files) (before now : List ℕ)
     → RecordOutcome out given files max_inst object args loaded o → CameTo o.writes old new before now → CameToLimit (λ limit p. RecordOutcome out given files limit object args loaded p) max_inst old new before now

@@ -1,7 +1,12 @@
+pub mod Program
+pub mod ProgramLaws
 pub mod Outcome
 pub mod Replay
 pub mod Far
 pub mod Parts
+pub mod Launching
+pub mod LaunchLaws
 pub mod Prefixes
+pub mod Plain
 pub mod OutcomeLaws
 pub mod FarLaws

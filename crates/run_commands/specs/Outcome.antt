@@ -1,5 +1,5 @@
 -- What comes of the commands sim-safe and record where nothing fails: what they answer, and what they write.
-use Rattle.std.specs.Prelude.{◌≡◌, ◌+◌, ◌-◌, ◌*◌, ◌/◌, ◌^◌, ℕ, Bool, List, [], ◌∷◌, ◌++◌, max, min, Option, Some, None, unwrap_or, if◌then◌else◌}
+use Rattle.std.specs.Prelude.{◌≡◌, ◌+◌, ◌*◌, ◌/◌, ℕ, Bool, List, [], ◌∷◌, ◌++◌, max, Option, Some, None, unwrap_or, if◌then◌else◌}
 use Rattle.ecoff_load.specs.declared.image.Image.{Image}
 use Rattle.ecoff_load.specs.declared.image.Part.{Part}
 use Rattle.event_trace.specs.declared.trace.Trace.{Trace}
@@ -9,75 +9,90 @@ use Rattle.event_trace.specs.World.{File, WorldState, start_world}
 use Rattle.sim_safe.specs.declared.observer.RunEnd.{RunEnd}
 use Rattle.sim_safe.specs.declared.observer.RunEnd.TheVariants as ends
 use Rattle.sim_safe.specs.State.{State, start_state}
+use Rattle.sim_safe.specs.Record.{Item}
 use Rattle.sim_safe.specs.Recording.{recording, serve}
 use Rattle.sim_safe.specs.Run.{items_of, after, end_of}
 use Rattle.sim_watch.specs.Statistics.{statistics_of}
 use Rattle.sim_watch.specs.Watch.{run_journal}
+use Rattle.cut_run.specs.Plan.{Asked, limited, skipped, timed_items, cut_end, cut_state, is_too_long, cut_journal, PointElsewhere}
+use Rattle.sim_opts.specs.Request.{Run}
 use Rattle.journal.specs.declared.loading.Found.{Found}
 use Rattle.journal.specs.Write.{Journal, Start, Append, Report}
 use Rattle.journal.specs.Load.{Input, input, inputs}
 use Rattle.journal.specs.Outcome.{Outcome}
 use Rattle.answers.specs.declared.answer.Answer.{Answer}
+use Rattle.answers.specs.declared.answer.Answer.TheVariants as answer
 use Rattle.answers.specs.Answer.{answered, run_answer}
-use Rattle.answers.specs.Report.{statistics_text}
-use Rattle.answers.specs.Judging.{LoadsFile, LoadsNamed, LoadsEach, JudgesObject, JudgesGiven}
+use Rattle.answers.specs.Report.{fault_line, statistics_text}
+use Rattle.answers.specs.Judging.{LoadsFile, LoadsNamed, LoadsEach, JudgesObject}
+use Rattle.run_commands.specs.Program.{object_limit, named_input, program_inputs, ProgramOutcome}
 
 -- ---- the files that are loaded, in this order, each of at most so many bytes
-
-abbrev pub object_limit : ℕ
-object_limit = 16777216
-
-abbrev pub trace_limit : ℕ
-trace_limit = 67108864
 
 -- of the input of a program, and of each file that it can open
 abbrev pub input_limit : ℕ
 input_limit = 16777216
 
--- a file that may be named, and others behind it
-abbrev pub named_input : ℕ → Option (List ℕ) → List Input → List Input
-named_input limit None others = others
-named_input limit (Some name) others = input name limit ∷ others
-
 -- the files that a program can open
 abbrev pub opened_inputs : List (List ℕ) → List Input
 opened_inputs files = inputs files input_limit
 
-abbrev pub sim_safe_inputs : (trace : Option (List ℕ)) (object : List ℕ) → List Input
-sim_safe_inputs trace object = input object object_limit ∷ named_input trace_limit trace []
+abbrev pub sim_safe_inputs : Run → List Input
+sim_safe_inputs r = program_inputs r
 
 abbrev pub record_inputs : (given : Option (List ℕ)) (files : List (List ℕ)) (object : List ℕ) → List Input
 record_inputs given files object = input object object_limit ∷ named_input input_limit given (opened_inputs files)
 
 -- ---- runs
 
--- the most instructions that a run of up to n does: it ends where 10^15 are done
-abbrev pub step_limit : State → ℕ → ℕ
-step_limit s n = min n (10 ^ 15 - s.icnt)
-
--- the answer of up to n steps that end so
-unfoldable pub ran_answer : Trace → RunEnd → ℕ → State → Answer
-ran_answer trace end n s = run_answer end (after trace n s).pc (after trace n s).icnt
-
--- the statistics, and how the run ended
-unfoldable pub ran_report : Trace → RunEnd → ℕ → State → List ℕ
-ran_report trace end n s = statistics_text (statistics_of (items_of trace n s)) end (after trace n s).pc (after trace n s).icnt
-
--- up to n steps from a state over a trace, which end so, with these writes before the report
-abbrev pub ran_to : Trace → RunEnd → ℕ → State → Journal → Outcome Answer
-ran_to trace end n s writes = answered (ran_answer trace end n s) (Report (ran_report trace end n s) ∷ writes)
+-- what a request asks of its run
+abbrev pub asked_of : Run → Asked
+asked_of r = record { skip = r.skip; most = r.most; commits = r.commits; point = r.point }
 
 -- a file that may be named is made empty
 abbrev pub start_of : Option (List ℕ) → Journal
 start_of None = []
 start_of (Some file) = Start file ∷ []
 
--- the file of the commit text is made empty, if one is named; then the run writes its text and output
-abbrev pub ran_for : Trace → ℕ → State → Option (List ℕ) → Outcome Answer
-ran_for trace n s commits = ran_to trace (end_of trace n s) n s (run_journal commits (items_of trace n s) ++ start_of commits)
+-- the file of a point that may be taken
+abbrev pub point_file : Option (List ℕ × ℕ) → Option (List ℕ)
+point_file None = None
+point_file (Some p) = Some p.0
 
-abbrev pub ran : Trace → ℕ → State → Option (List ℕ) → Outcome Answer
-ran trace n s commits = ran_for trace (step_limit s n) s commits
+-- the file of the commit text is made empty, if one is named, and then that of the point
+abbrev pub starts_of : Asked → Journal
+starts_of asked = start_of (point_file asked.point) ++ start_of asked.commits
+
+-- commit text and point go to two files
+abbrev pub AreApart : Option (List ℕ) → Option (List ℕ × ℕ) → Type 0
+AreApart None point = Unit {0}
+AreApart (Some file) point = PointElsewhere file point
+
+-- the answer where a point has too many pages
+abbrev pub too_long : Asked → Answer
+too_long asked = answer.TooLong (unwrap_or (point_file asked.point) [])
+
+-- the answer of a run that ended so and left this state
+unfoldable pub end_answer : RunEnd → State → Answer
+end_answer end t = run_answer end t.pc t.icnt
+
+-- the statistics of a run that skipped so many steps and did these behind them, and how it ended
+unfoldable pub end_report : ℕ → List Item → RunEnd → State → List ℕ
+end_report skipped items end t = statistics_text skipped (statistics_of items) end t.pc t.icnt
+
+-- a run of a state that does what is asked answers how it ended, or that its point is too long
+unfoldable pub ran_answer : Trace → Asked → State → Answer
+ran_answer trace asked s = if is_too_long trace s asked then too_long asked else end_answer (cut_end trace s asked) (cut_state trace s asked)
+
+-- and reports its statistics, or that alone
+unfoldable pub ran_report : Trace → Asked → State → List ℕ
+ran_report trace asked s =
+    if is_too_long trace s asked then fault_line (too_long asked)
+    else end_report (skipped trace s asked) (timed_items trace s asked) (cut_end trace s asked) (cut_state trace s asked)
+
+-- its files are made empty; then it writes its commit text, its output and its point, and last its report
+abbrev pub ran : Trace → Asked → State → Outcome Answer
+ran trace asked s = answered (ran_answer trace asked s) (Report (ran_report trace asked s) ∷ cut_journal trace s asked ++ starts_of asked)
 
 -- ---- runs that are recorded
 
@@ -89,17 +104,21 @@ trace_text t = trace_bytes t
 abbrev pub recorded_end : Trace × Bool → ℕ → State → RunEnd
 recorded_end made n s = if made.1 then ends.Limit else end_of made.0 n s
 
+-- up to n steps from a state over a trace, which end so, with these writes before the report
+abbrev pub ended : Trace → RunEnd → ℕ → State → Journal → Outcome Answer
+ended trace end n s writes = answered (end_answer end (after trace n s)) (Report (end_report 0 (items_of trace n s) end (after trace n s)) ∷ writes)
+
 -- up to n steps whose calls made a trace: the file is made empty; the run over that trace writes its output;
 -- then the trace goes to the file
 abbrev pub recorded_for : Trace × Bool → ℕ → State → List ℕ → Outcome Answer
-recorded_for made n s out = ran_to made.0 (recorded_end made n s) n s (Append out (trace_text made.0) ∷ run_journal None (items_of made.0 n s) ++ Start out ∷ [])
+recorded_for made n s out = ended made.0 (recorded_end made n s) n s (Append out (trace_text made.0) ∷ run_journal None (items_of made.0 n s) ++ Start out ∷ [])
 
 -- the trace that a world makes of up to n steps of a program of a byte order, and whether it was full
 abbrev pub trace_made : WorldState → Bool → ℕ → State → Trace × Bool
 trace_made world big n s = recording serve n world (empty_trace big) s
 
 abbrev pub recorded : WorldState → Bool → ℕ → State → List ℕ → Outcome Answer
-recorded world big n s out = recorded_for (trace_made world big (step_limit s n) s) (step_limit s n) s out
+recorded world big n s out = recorded_for (trace_made world big (limited s n) s) (limited s n) s out
 
 -- the greatest end of parts
 abbrev pub greatest_end : List Part → ℕ
@@ -118,15 +137,9 @@ world_of given files image = start_world given files (start_break image.parts)
 
 -- ---- commands
 
--- sim-safe: the object is loaded and then the trace, if one is named; then the object is judged and
--- then the trace; then the program runs from its start
-abbrev pub SimSafeOutcome : (commits trace : Option (List ℕ)) (max_inst : ℕ) (object : List ℕ) (args : List (List ℕ)) → List Found → Outcome Answer → Type 0
-SimSafeOutcome commits trace max_inst object args loaded o =
-    LoadsFile object loaded o (λ program others.
-    LoadsNamed trace others o (λ calls _.
-    JudgesObject program o (λ image.
-    JudgesGiven calls image.text.big o (λ given.
-    o ≡ ran given max_inst (start_state image args) commits))))
+-- sim-safe: the program runs as is asked, from its start or from the point's state
+abbrev pub SimSafeOutcome : Run → List Found → Outcome Answer → Type 0
+SimSafeOutcome r loaded o = ProgramOutcome r loaded o (λ given s. o ≡ ran given (asked_of r) s)
 
 -- record: the object is loaded, then the input, which is empty where none is named, and then each file that
 -- can be opened; then the object is judged

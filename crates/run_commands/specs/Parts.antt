@@ -1,35 +1,27 @@
 -- What the parts of the commands say of each other.
-use Rattle.std.specs.Prelude.{◌≡◌, ℕ, Bool, List, [], map, string_bytes, Option, option_copied, unwrap_or, Result}
+use Rattle.std.specs.Prelude.{ℕ, Bool, List, [], ◌∷◌, map, string_bytes, option_copied, unwrap_or, Result}
 use Rattle.ecoff_load.specs.declared.image.Image.{Image}
-use Rattle.ecoff_load.specs.Object.{IsObject, IsImage}
 use Rattle.event_trace.specs.declared.trace.Trace.{Trace}
 use Rattle.event_trace.specs.World.{File}
 use Rattle.sim_safe.specs.declared.observer.RunEnd.{RunEnd}
 use Rattle.sim_safe.specs.declared.observer.RunEnd.TheVariants as ends
 use Rattle.sim_safe.specs.declared.recording.RecordEnd.{RecordEnd}
 use Rattle.sim_safe.specs.declared.recording.RecordEnd.TheVariants as record_ends
-use Rattle.sim_safe.specs.State.{start_state}
-use Rattle.sim_safe.specs.Record.{IsRunTrace}
-use Rattle.sim_opts.specs.declared.request.SimSafe.{SimSafe}
+use Rattle.sim_safe.specs.State.{State, start_state}
+use Rattle.cut_run.specs.Plan.{Asked, cut_journal}
 use Rattle.sim_opts.specs.declared.request.Record.{Record}
 use Rattle.journal.specs.declared.loading.Found.{Found}
+use Rattle.journal.specs.Write.{Report}
 use Rattle.journal.specs.Load.{Input}
 use Rattle.journal.specs.Outcome.{Outcome}
 use Rattle.answers.specs.declared.answer.Answer.{Answer}
-use Rattle.answers.specs.declared.refusal.Refusal.{Refusal}
-use Rattle.answers.specs.Judging.{LoadsEach, LoadsNamed, JudgesObject, JudgesGiven, IsGiven, Judges}
-use Rattle.run_commands.specs.declared.judging.Program.{Program}
+use Rattle.answers.specs.Answer.{answered}
+use Rattle.answers.specs.Judging.{LoadsEach, LoadsNamed, JudgesObject}
 use Rattle.run_commands.specs.declared.world.Enclosed.{Enclosed}
-use Rattle.run_commands.specs.Outcome.{SimSafeOutcome, ran, recorded, sim_safe_inputs, record_inputs, world_of}
+use Rattle.run_commands.specs.Outcome.{ran_answer, ran_report, recorded, record_inputs, world_of}
 use Rattle.run_commands.specs.Replay.{IsRecorded, RecordingOutcome, made_by}
 
 -- ---- requests
-
-abbrev pub sim_safe_inputs_of : SimSafe → List Input
-sim_safe_inputs_of r = sim_safe_inputs (option_copied r.trace) r.object.now
-
-abbrev pub SimSafeOutcomeOf : SimSafe → List Found → Outcome Answer → Type 0
-SimSafeOutcomeOf r loaded o = SimSafeOutcome (option_copied r.commits) (option_copied r.trace) r.max_inst r.object.now (map string_bytes r.args.now) loaded o
 
 abbrev pub names_in : Record → List (List ℕ)
 names_in r = map (λ name. name.now) r.files.items
@@ -42,27 +34,9 @@ RecordingOutcomeOf r result loaded o = RecordingOutcome r.out.now (option_copied
 
 -- ---- what is run
 
--- what can be run
-pub record CanRun (p : Program) : Type 0 where
-  pub image : IsImage p.image
-  pub trace : IsRunTrace p.trace
-
--- an object and the trace beside it, if there is one, are judged
-abbrev pub JudgesProgram : List ℕ → Option (List ℕ) → Result Program Refusal → Type 0
-JudgesProgram object calls result =
-    Judges result (λ p. IsObject object p.image × IsGiven calls p.image.text.big p.trace)
-    (λ o. JudgesObject object o (λ image. JudgesGiven calls image.text.big o (λ _. ⊥)))
-
--- the run that a request asks for
-abbrev pub run_of : SimSafe → Program → Outcome Answer
-run_of r p = ran p.trace r.max_inst (start_state p.image (map string_bytes r.args.now)) (option_copied r.commits)
-
--- what comes of it where the object is loaded, and where the trace is, too
-abbrev pub ObjectRuns : SimSafe → List ℕ → List Found → Outcome Answer → Type 0
-ObjectRuns r program loaded o = LoadsNamed (option_copied r.trace) loaded o (λ calls _. JudgesObject program o (λ image. JudgesGiven calls image.text.big o (λ given. o ≡ run_of r (record { image = image; trace = given }))))
-
-abbrev pub LoadedRuns : SimSafe → List ℕ → Option (List ℕ) → Outcome Answer → Type 0
-LoadedRuns r program calls o = JudgesObject program o (λ image. JudgesGiven calls image.text.big o (λ given. o ≡ run_of r (record { image = image; trace = given })))
+-- a run whose files were made empty
+abbrev pub ran_behind : Trace → Asked → State → Outcome Answer
+ran_behind trace asked s = answered (ran_answer trace asked s) (Report (ran_report trace asked s) ∷ cut_journal trace s asked)
 
 -- ---- what is recorded
 

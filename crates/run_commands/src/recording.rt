@@ -13,11 +13,11 @@ ghost use Rattle.sim_watch.specs.Watch.{run_journal};
 ghost use Rattle.journal.specs.Write.{Append};
 ghost use Rattle.journal.specs.View.{Writes};
 ghost use Rattle.journal.specs.Outcome.{Comes, Ends};
-ghost use Rattle.run_commands.specs.Outcome.{input_limit, named_input, opened_inputs, ran_to, recorded_end, trace_text};
+ghost use Rattle.run_commands.specs.Program.{named_input};
+ghost use Rattle.run_commands.specs.Outcome.{input_limit, opened_inputs, ended, recorded_end, trace_text};
 ghost use Rattle.run_commands.specs.Parts.{names_in, record_inputs_of, RecordingOutcomeOf, ObjectRecords, GivenRecords, LoadedRecords, made_for, recorded_of, run_end};
 
-use crate::running::MOST_INSTRUCTIONS;
-use crate::safe::OBJECT_LIMIT;
+use crate::launching::OBJECT_LIMIT;
 use crate::world::{Enclosed, enclose};
 use answers::{Answer, judge_object, refuse, refuse_long, report_run};
 use ecoff_load::StartFault;
@@ -30,6 +30,9 @@ use std::alloc::Global;
 
 /// The longest input, and the longest file that a program can open, in bytes.
 const INPUT_LIMIT: u64 = 16_777_216;
+
+/// A run ends where so many instructions are done.
+const MOST_INSTRUCTIONS: u64 = 1_000_000_000_000_000;
 
 /// The end of a recorded run. One whose trace is full ends as at its budget.
 fn run_end(end: RecordEnd) -> RunEnd
@@ -71,7 +74,7 @@ fn record_from<O: Outside>(
     requires rising { next_count 0 recorder.trace.records ≤ arch.icnt }
     ensures valid { OnOk result (IsTrace (made_of recorder n (state_of arch)).0) }
     ensures ends { let made = made_of recorder n (state_of arch) in
-        Ends O.view outside.old (ran_to made.0 (recorded_end made n (state_of arch)) n (state_of arch) (Append out.now (trace_text made.0) ∷ run_journal None (items_of made.0 n (state_of arch)))) outside.new result }
+        Ends O.view outside.old (ended made.0 (recorded_end made n (state_of arch)) n (state_of arch) (Append out.now (trace_text made.0) ∷ run_journal None (items_of made.0 n (state_of arch)))) outside.new result }
 {
     let run = match watched_record(alloc, &mut arch, &mut recorder, n, outside) {
         Ok(run) => run,
@@ -80,7 +83,15 @@ fn record_from<O: Outside>(
     match append_trace(alloc, &recorder, out, outside) {
         Ok(()) => {
             let (pc, icnt) = (arch.pc(), arch.icnt());
-            report_run(alloc, run_end(run.end), &run.statistics, pc, icnt, outside)
+            report_run(
+                alloc,
+                run_end(run.end),
+                0,
+                &run.statistics,
+                pc,
+                icnt,
+                outside,
+            )
         }
         Err(fault) => Err(fault),
     }

@@ -1,27 +1,25 @@
-//! A run from a program's start to its report.
-ghost use Rattle.std.specs.Prelude.{◌≡◌, ◌+◌, ◌^◌, ◌<◌, ◌≤◌, Bool, length, map, string_bytes};
+//! A run from its begin to its report.
+ghost use Rattle.std.specs.Prelude.{◌≡◌, ◌≤◌, ◌^◌, [], unwrap_or};
 ghost use Rattle.std.specs.Option.{option_copied};
-ghost use Rattle.ecoff_load.specs.Start.{block};
 ghost use Rattle.sim_safe.specs.State.{state_of};
 ghost use Rattle.sim_safe.specs.Record.{IsRunTrace};
-ghost use Rattle.sim_safe.specs.Run.{items_of, end_of};
-ghost use Rattle.sim_watch.specs.Watch.{WritesOrCut, run_journal};
+ghost use Rattle.sim_watch.specs.Watch.{WritesOrCut};
+ghost use Rattle.cut_run.specs.Parts.{point_of_part};
+ghost use Rattle.cut_run.specs.Comes.{asked_by};
+ghost use Rattle.sim_opts.specs.Borrowed.{point_in, run_in};
 ghost use Rattle.journal.specs.Outcome.{Ends};
-ghost use Rattle.run_commands.specs.Outcome.{start_of, ran_to};
-ghost use Rattle.run_commands.specs.Parts.{CanRun, run_of};
+ghost use Rattle.run_commands.specs.Outcome.{asked_of, point_file, start_of, starts_of, ran};
+ghost use Rattle.run_commands.specs.Launching.{CanRun};
+ghost use Rattle.run_commands.specs.Parts.{ran_behind};
 
 use crate::judging::Program;
-use answers::{Answer, report_run};
-use ecoff_load::StartFault;
+use answers::{Answer, refuse_long, report_run};
+use cut_run::{CutAnswer, Plan, PointFile, cut_run};
 use event_trace::Trace;
 use journal::{Fault, Outside};
 use sim_opts::SimSafe;
 use sim_safe::Arch;
-use sim_watch::watched_run;
 use std::alloc::Global;
-
-/// A run ends where so many instructions are done.
-pub const MOST_INSTRUCTIONS: u64 = 1_000_000_000_000_000;
 
 /// Makes a file empty that may be named.
 fn start_named<O: Outside>(outside: &mut O, file: Option<&str>) -> Result<(), Fault>
@@ -33,52 +31,106 @@ fn start_named<O: Outside>(outside: &mut O, file: Option<&str>) -> Result<(), Fa
     }
 }
 
-/// Does up to `n` steps from a state on, with the commit text at the end of a file that may be
-/// named, and reports them.
-fn run_from<O: Outside>(
-    alloc: Global,
-    mut arch: Arch,
-    trace: &Trace,
-    n: u64,
-    commits: Option<&str>,
-    outside: &mut O,
-) -> Result<Answer, Fault>
-    requires count { arch.icnt + n < 2 ^ 62 }
-    requires trace { IsRunTrace trace.now }
-    ensures { Ends O.view outside.old (ran_to trace.now (end_of trace.now n (state_of arch)) n (state_of arch) (run_journal (option_copied commits.entry) (items_of trace.now n (state_of arch)))) outside.new result }
+/// The file of the point of a plan.
+fn point_file<'a>(plan: &Plan<'a>) -> Option<&'a str>
+    ensures { option_copied result ≡ point_file (asked_by plan.now).point }
 {
-    match watched_run(alloc, &mut arch, trace, n, commits, outside) {
-        Ok(watched) => {
-            let (pc, icnt) = (arch.pc(), arch.icnt());
-            report_run(alloc, watched.end, &watched.statistics, pc, icnt, outside)
-        }
+    match plan.point {
+        Some(point) => Some(point.file),
+        None => None,
+    }
+}
+
+/// The name of that file, which is empty where there is none.
+fn point_name<'a>(plan: &Plan<'a>) -> &'a str
+    ensures { result.now ≡ unwrap_or (point_file (asked_by plan.now).point) [] }
+{
+    match plan.point {
+        Some(point) => point.file,
+        None => "",
+    }
+}
+
+/// The point that a run leaves, if it leaves one.
+fn point_of<'a>(point: Option<sim_opts::PointFile<'a>>) -> Option<PointFile<'a>>
+    ensures { point_of_part result ≡ point_in point.entry }
+{
+    match point {
+        Some(point) => Some(PointFile {
+            file: point.file,
+            at: point.at,
+        }),
+        None => None,
+    }
+}
+
+/// What a request asks of its run.
+fn plan_of<'a>(request: SimSafe<'a>) -> Plan<'a>
+    ensures { asked_by result ≡ asked_of (run_in request.entry) }
+{
+    Plan {
+        skip: request.skip,
+        most: request.max_inst,
+        commits: request.commits,
+        point: point_of(request.point),
+    }
+}
+
+/// Makes the files of a plan empty: that of the commit text, and then that of the point.
+fn start_files<O: Outside>(outside: &mut O, plan: &Plan<'_>) -> Result<(), Fault>
+    ensures { WritesOrCut O.view outside.old (starts_of (asked_by plan.now)) outside.new result }
+{
+    match start_named(outside, plan.commits) {
+        Ok(()) => start_named(outside, point_file(plan)),
         Err(fault) => Err(fault),
     }
 }
 
-/// Runs the program of a request from its start, with the commit text in a file that is made empty
-/// first, if one is named.
+/// Does a run as a plan asks whose files are empty, and reports it.
+fn run_planned<O: Outside>(
+    alloc: Global,
+    mut arch: Arch,
+    trace: &Trace,
+    plan: &Plan<'_>,
+    outside: &mut O,
+) -> Result<Answer, Fault>
+    requires count { arch.icnt ≤ 10 ^ 15 }
+    requires trace { IsRunTrace trace.now }
+    ensures { Ends O.view outside.old (ran_behind trace.now (asked_by plan.now) (state_of arch)) outside.new result }
+{
+    match cut_run(alloc, &mut arch, trace, plan, outside) {
+        Ok(CutAnswer::Whole(cut)) => {
+            let (pc, icnt) = (arch.pc(), arch.icnt());
+            report_run(
+                alloc,
+                cut.end,
+                cut.skipped,
+                &cut.statistics,
+                pc,
+                icnt,
+                outside,
+            )
+        }
+        Ok(CutAnswer::TooLong) => refuse_long(alloc, point_name(plan), outside),
+        Err(fault) => Err(fault),
+    }
+}
+
+/// Runs a program as a request asks, with the commit text and the point in files that are made empty
+/// first, where they are named.
 pub fn run_program<O: Outside>(
     alloc: Global,
     program: Program,
     request: SimSafe<'_>,
     outside: &mut O,
 ) -> Result<Answer, Fault>
-    requires program { CanRun program }
-    requires fits { (big : Bool) → length (block big (map string_bytes request.args.now)) ≤ 16384 }
-    ensures { Ends O.view outside.old (run_of request.entry program) outside.new result }
+    requires { CanRun program }
+    ensures { Ends O.view outside.old (ran program.trace (asked_of (run_in request.entry)) (state_of program.arch)) outside.new result }
 {
-    match start_named(outside, request.commits) {
+    let plan = plan_of(request);
+    match start_files(outside, &plan) {
         Ok(()) => {}
         Err(fault) => return Err(fault),
     }
-    match Arch::start(alloc, program.image, request.args) {
-        Ok(arch) => {
-            let room = MOST_INSTRUCTIONS.saturating_sub(arch.icnt());
-            let n = request.max_inst.min(room);
-            run_from(alloc, arch, &program.trace, n, request.commits, outside)
-        }
-        // words whose start block is too long are refused
-        Err(StartFault::TooLong { .. } | StartFault::OutOfMemory) => Err(Fault::OutOfMemory),
-    }
+    run_planned(alloc, program.arch, &program.trace, &plan, outside)
 }

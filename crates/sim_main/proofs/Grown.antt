@@ -26,6 +26,7 @@ tells_growth before now (ending.Words at why) h = none_grew before now (ending.W
 tells_growth before now (ending.Text line why) h = none_grew before now (ending.Text line why) h
 tells_growth before now (ending.Object at why) h = none_grew before now (ending.Object at why) h
 tells_growth before now (ending.Trace at why) h = none_grew before now (ending.Trace at why) h
+tells_growth before now (ending.Point at why) h = none_grew before now (ending.Point at why) h
 tells_growth before now (ending.Stopped why pc icnt) h = none_grew before now (ending.Stopped why pc icnt) h
 tells_growth before now ending.Budget h = none_grew before now ending.Budget h
 tells_growth before now (ending.TooLong name) h = none_grew before now (ending.TooLong name) h

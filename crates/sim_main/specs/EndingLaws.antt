@@ -1,5 +1,5 @@
 -- Laws from what a command comes to, to each fact of its ending.
-use Rattle.std.specs.Prelude.{◌≡◌, ◌≢◌, ◌<◌, ◌++◌, ℕ, List, [], ◌∷◌, map, Bool, true, false, Option, Some, None, Result, Ok, Err}
+use Rattle.std.specs.Prelude.{◌≡◌, ◌≢◌, ◌⊎◌, ◌<◌, ◌++◌, ℕ, List, [], ◌∷◌, map, Bool, true, false, Option, Some, None, Result, Ok, Err}
 use Rattle.std.proofs.Common.{refl, sym, ap, subst, inl, inr, arith}
 use Rattle.journal.specs.declared.fault.Fault.{Fault}
 use Rattle.journal.specs.declared.fault.Fault.TheVariants as fault
@@ -15,14 +15,15 @@ use Rattle.journal.specs.ClauseLaws.{CountsBy, counts_by, leaves_files, memory, 
 use Rattle.answers.specs.declared.answer.Answer.{Answer}
 use Rattle.answers.specs.declared.answer.Answer.TheVariants as answer
 use Rattle.answers.specs.declared.answer.Unbuilt.TheVariants as unbuilt
-use Rattle.answers.specs.Sound.{NamesLong, names_of}
 use Rattle.ss_base.specs.Outside.{Files}
 use Rattle.sim_opts.specs.Words.{is_unbuilt}
+use Rattle.sim_opts.specs.Request.{config_of}
 use Rattle.sim_main.specs.declared.ending.Ending.TheVariants as ending
 use Rattle.sim_main.specs.Ending.{answer_ending, fault_ending, ending_of, answer_of, is_fault}
-use Rattle.sim_main.specs.Outcome.{Asked, config_inputs, asked_with, inputs_for, OutcomeFor, ComesFor, asked_in, inputs_in, OutcomeIn, ComesIn}
-use Rattle.sim_main.specs.Answer.{ComesByWords, AnswersBy, Tells, EndsByWords, Counts, Quiet}
-use Rattle.sim_main.specs.OutcomeLaws.{comes_has, starts_files, reports_last, quiet_with, tells_with, asked_named, names_with}
+use Rattle.sim_main.specs.Outcome.{Asked, config_inputs, asked_with, inputs_for, left_point, OutcomeFor, ComesFor, asked_in, inputs_in, OutcomeIn, ComesIn}
+use Rattle.sim_main.specs.Answer.{ComesByWords, AnswersBy, Tells, EndsByWords, Counts, Quiet, HoldsOfPoint}
+use Rattle.sim_main.specs.Apart.{FilesApart, apart_with, apart_in}
+use Rattle.sim_main.specs.OutcomeLaws.{comes_has, starts_files, reports_last, quiet_with, tells_with, asked_named, NamesOf, names_with}
 
 -- ---- endings
 
@@ -33,6 +34,7 @@ told_answer (answer.Words at why) = refl
 told_answer (answer.Object at why) = refl
 told_answer (answer.Trace at why) = refl
 told_answer (answer.Stopped why pc icnt) = refl
+told_answer (answer.Point at why) = refl
 told_answer answer.Budget = refl
 told_answer (answer.Text line why) = refl
 told_answer (answer.TooLong name) = refl
@@ -56,6 +58,7 @@ fault_answer (answer.Words at why) = refl
 fault_answer (answer.Object at why) = refl
 fault_answer (answer.Trace at why) = refl
 fault_answer (answer.Stopped why pc icnt) = refl
+fault_answer (answer.Point at why) = refl
 fault_answer answer.Budget = refl
 fault_answer (answer.Text line why) = refl
 fault_answer (answer.TooLong name) = refl
@@ -88,6 +91,7 @@ answer_counts before now (answer.Words at why) h = h
 answer_counts before now (answer.Object at why) h = h
 answer_counts before now (answer.Trace at why) h = h
 answer_counts before now (answer.Stopped why pc icnt) h = h
+answer_counts before now (answer.Point at why) h = h
 answer_counts before now answer.Budget h = h
 answer_counts before now (answer.Text line why) h = h
 answer_counts before now (answer.TooLong name) h = h
@@ -145,15 +149,15 @@ plainly_in v a b words came p t = plain v a b words (asked_in words (v.files a))
 -- ---- want of memory, and a failing second stream
 
 memory_of : {O : Type 0} (v : View O) (a b : O) (words : List (List ℕ)) (asked : Asked) (came : Result Answer Fault)
-    → v.stat.tells a → ending_of came ≡ ending.OutOfMemory → Comes v a (inputs_for words asked) (OutcomeFor words asked) b came → v.stat.contents b ≡ v.stat.contents a
-memory_of v a b words asked (Ok x) t e p = absurd (answer_no_memory x e)
-memory_of v a b words asked (Err fault.Shelf) t e p = cc
-memory_of v a b words asked (Err fault.Prog) t e p = cc
-memory_of v a b words asked (Err fault.Stat) t e p = cc
-memory_of v a b words asked (Err fault.OutOfMemory) t e p = memory v a b (inputs_for words asked) (OutcomeFor words asked) (reports_last words asked) t p
+    → FilesApart asked → v.stat.tells a → ending_of came ≡ ending.OutOfMemory → Comes v a (inputs_for words asked) (OutcomeFor words asked) b came → v.stat.contents b ≡ v.stat.contents a
+memory_of v a b words asked (Ok x) apart t e p = absurd (answer_no_memory x e)
+memory_of v a b words asked (Err fault.Shelf) apart t e p = cc
+memory_of v a b words asked (Err fault.Prog) apart t e p = cc
+memory_of v a b words asked (Err fault.Stat) apart t e p = cc
+memory_of v a b words asked (Err fault.OutOfMemory) apart t e p = memory v a b (inputs_for words asked) (OutcomeFor words asked) (reports_last words asked apart) t p
 
 pub memory_by : {O : Type 0} (v : View O) (a b : O) (words : List (List ℕ)) (came : Result Answer Fault) → v.stat.tells a → ending_of came ≡ ending.OutOfMemory → ComesByWords v a words b came → v.stat.contents b ≡ v.stat.contents a
-memory_by v a b words came t e p = memory_of v a b words (asked_with words p.config) came t e (plainly v a b words came p)
+memory_by v a b words came t e p = memory_of v a b words (asked_with words p.config) came (apart_with words p.config) t e (plainly v a b words came p)
 
 pub counts_words : {O : Type 0} (v : View O) (a b : O) (words : List (List ℕ)) (came : Result Answer Fault) → ComesByWords v a words b came → CountsBy (counts v a) (counts v b) came
 counts_words v a b words came p = counts_by v a b (inputs_for words (asked_with words p.config)) (ComesFor words (asked_with words p.config) came) came p.comes
@@ -166,13 +170,17 @@ pub last_by : {O : Type 0} (v : View O) (a b : O) (words : List (List ℕ)) (cam
 last_by v a b words came t g p =
     let inputs = inputs_in words (v.files a) in
     let Has : List Found → Outcome Answer → Type 0 = OutcomeIn words (v.files a) in
-    last v a b inputs Has (starts_files words (asked_in words (v.files a))) (reports_last words (asked_in words (v.files a))) t
+    last v a b inputs Has (starts_files words (asked_in words (v.files a)) (apart_in words (v.files a))) (reports_last words (asked_in words (v.files a)) (apart_in words (v.files a))) t
     (subst (λ x. Comes v a inputs Has b x) (stat_grown (counts v a) (counts v b) came (counts_words v a b words came p) g) (plainly_in v a b words came p t))
 
 -- ---- quiet streams
 
+quiet_or : (A B C : Type 0) → (B → C) → A ⊎ B → A ⊎ C
+quiet_or A B C f (inl a) = inl a
+quiet_or A B C f (inr b) = inr (f b)
+
 answer_quiet : {O : Type 0} (v : View O) (a b : O) (words : List (List ℕ)) (asked : Asked) (x : Answer) → Comes v a (inputs_for words asked) (OutcomeFor words asked) b (Ok x)
-    → Quiet (v.prog.faults a) (v.prog.faults b) (v.prog.sink a) (v.prog.sink b) (v.stat.sink a) (v.stat.sink b) (answer_ending x)
+    → Quiet (left_point asked) (v.prog.faults a) (v.prog.faults b) (v.prog.sink a) (v.prog.sink b) (v.stat.sink a) (v.stat.sink b) (answer_ending x)
 answer_quiet v a b words asked (answer.Exited code) p = tt
 answer_quiet v a b words asked answer.Made p = quiet_stat v a b (inputs_for words asked) (OutcomeFor words asked) answer.Made (quiet_with words asked answer.Made) p
 answer_quiet v a b words asked (answer.Words at why) p = quiet_prog v a b (inputs_for words asked) (OutcomeFor words asked) (answer.Words at why) (quiet_with words asked (answer.Words at why)) p
@@ -181,24 +189,25 @@ answer_quiet v a b words asked (answer.Trace at why) p = quiet_prog v a b (input
 answer_quiet v a b words asked (answer.Stopped why pc icnt) p = tt
 answer_quiet v a b words asked answer.Budget p = tt
 answer_quiet v a b words asked (answer.Text line why) p = quiet_prog v a b (inputs_for words asked) (OutcomeFor words asked) (answer.Text line why) (quiet_with words asked (answer.Text line why)) p
-answer_quiet v a b words asked (answer.TooLong name) p = quiet_prog v a b (inputs_for words asked) (OutcomeFor words asked) (answer.TooLong name) (quiet_with words asked (answer.TooLong name)) p
+answer_quiet v a b words asked (answer.Point at why) p = quiet_prog v a b (inputs_for words asked) (OutcomeFor words asked) (answer.Point at why) (quiet_with words asked (answer.Point at why)) p
+answer_quiet v a b words asked (answer.TooLong name) p = quiet_or (left_point asked ≡ Some name) (Lacks fault.Prog p.outcome.writes) (v.prog.sink b ≡ v.prog.sink a) p.ends.1.untouched.prog (quiet_with words asked (answer.TooLong name) p.found p.outcome p.has p.ends.0)
 answer_quiet v a b words asked (answer.NotBuilt what) p =
     let none = quiet_with words asked (answer.NotBuilt what) in (
       quiet_prog v a b (inputs_for words asked) (OutcomeFor words asked) (answer.NotBuilt what) (λ fs o h e. subst (λ (l : Journal). Lacks fault.Prog l) (sym (none fs o h e)) tt) p,
       quiet_stat v a b (inputs_for words asked) (OutcomeFor words asked) (answer.NotBuilt what) (λ fs o h e. subst (λ (l : Journal). Lacks fault.Stat l) (sym (none fs o h e)) tt) p,
     )
 
-quiet_of : {O : Type 0} (v : View O) (a b : O) (words : List (List ℕ)) (asked : Asked) (came : Result Answer Fault) → Comes v a (inputs_for words asked) (OutcomeFor words asked) b came
-    → Quiet (v.prog.faults a) (v.prog.faults b) (v.prog.sink a) (v.prog.sink b) (v.stat.sink a) (v.stat.sink b) (ending_of came)
-quiet_of v a b words asked (Ok x) p = answer_quiet v a b words asked x p
-quiet_of v a b words asked (Err fault.Shelf) p = quiet v a b (inputs_for words asked) (OutcomeFor words asked) fault.Shelf (reports_last words asked) (λ e. cc) (λ e. cc) p
-quiet_of v a b words asked (Err fault.Prog) p = λ g. quiet v a b (inputs_for words asked) (OutcomeFor words asked) fault.Prog (reports_last words asked) (λ e. cc) (λ e. cc) p
-quiet_of v a b words asked (Err fault.Stat) p = λ g. absurd (not_grown (v.prog.faults a) (v.prog.faults b) (counts_by v a b (inputs_for words asked) (OutcomeFor words asked) (Err fault.Stat) p).1 g)
-quiet_of v a b words asked (Err fault.OutOfMemory) p = tt
+quiet_of : {O : Type 0} (v : View O) (a b : O) (words : List (List ℕ)) (asked : Asked) (came : Result Answer Fault) → FilesApart asked → Comes v a (inputs_for words asked) (OutcomeFor words asked) b came
+    → Quiet (left_point asked) (v.prog.faults a) (v.prog.faults b) (v.prog.sink a) (v.prog.sink b) (v.stat.sink a) (v.stat.sink b) (ending_of came)
+quiet_of v a b words asked (Ok x) apart p = answer_quiet v a b words asked x p
+quiet_of v a b words asked (Err fault.Shelf) apart p = quiet v a b (inputs_for words asked) (OutcomeFor words asked) fault.Shelf (reports_last words asked apart) (λ e. cc) (λ e. cc) p
+quiet_of v a b words asked (Err fault.Prog) apart p = λ g. quiet v a b (inputs_for words asked) (OutcomeFor words asked) fault.Prog (reports_last words asked apart) (λ e. cc) (λ e. cc) p
+quiet_of v a b words asked (Err fault.Stat) apart p = λ g. absurd (not_grown (v.prog.faults a) (v.prog.faults b) (counts_by v a b (inputs_for words asked) (OutcomeFor words asked) (Err fault.Stat) p).1 g)
+quiet_of v a b words asked (Err fault.OutOfMemory) apart p = tt
 
 pub quiet_by : {O : Type 0} (v : View O) (a b : O) (words : List (List ℕ)) (came : Result Answer Fault) → ComesByWords v a words b came
-    → Quiet (v.prog.faults a) (v.prog.faults b) (v.prog.sink a) (v.prog.sink b) (v.stat.sink a) (v.stat.sink b) (ending_of came)
-quiet_by v a b words came p = quiet_of v a b words (asked_with words p.config) came (plainly v a b words came p)
+    → HoldsOfPoint (v.tells a) (v.files a) words (λ point. Quiet point (v.prog.faults a) (v.prog.faults b) (v.prog.sink a) (v.prog.sink b) (v.stat.sink a) (v.stat.sink b) (ending_of came))
+quiet_by v a b words came p = record { config = p.config; are = p.are; holds = quiet_of v a b words (asked_with words p.config) came (apart_with words p.config) (plainly v a b words came p) }
 
 -- ---- answers
 
@@ -216,7 +225,7 @@ pub replay_by : {O : Type 0} (v : View O) (a b : O) (words : List (List ℕ)) (c
     → IfAnswered (answer_in came) (λ x. OutcomeWith (v.files a) (inputs_in words (v.files a)) (ComesIn words (v.files a) (Ok x)) (λ o. (x ≡ o.ending) × WholeFiles o.writes (v.files a) (v.files b)))
 replay_by v a b words (Ok x) t p =
     leaves_files v a b (inputs_in words (v.files a)) (ComesIn words (v.files a) (Ok x)) (Ok x)
-    (λ fs o h. starts_files words (asked_in words (v.files a)) fs o (comes_has (asked_in words (v.files a)) (Ok x) _ o h)) t (comes_in v a b words (Ok x) p t)
+    (λ fs o h. starts_files words (asked_in words (v.files a)) (apart_in words (v.files a)) fs o (comes_has (asked_in words (v.files a)) (Ok x) _ o h)) t (comes_in v a b words (Ok x) p t)
 replay_by v a b words (Err f) t p = tt
 
 tells_of : {O : Type 0} (v : View O) (a b : O) (words : List (List ℕ)) (asked : Asked) (came : Result Answer Fault) → Comes v a (inputs_for words asked) (OutcomeFor words asked) b came → IfAnswered (answer_in came) (Tells asked)
@@ -224,7 +233,7 @@ tells_of v a b words asked (Ok x) p = tells_with words asked x p.found p.outcome
 tells_of v a b words asked (Err f) p = tt
 
 long_of : {O : Type 0} (v : View O) (a b : O) (words : List (List ℕ)) (config : List Found) (came : Result Answer Fault) → AreFound (v.tells a) (v.files a) (config_inputs words) config
-    → Comes v a (inputs_for words (asked_with words config)) (OutcomeFor words (asked_with words config)) b came → IfAnswered (answer_in came) (NamesLong (names_of (inputs_for words (asked_with words config))))
+    → Comes v a (inputs_for words (asked_with words config)) (OutcomeFor words (asked_with words config)) b came → IfAnswered (answer_in came) (NamesOf (config_of words) (asked_with words config))
 long_of v a b words config (Ok x) are p =
     names_with words (asked_with words config) x p.found p.outcome (asked_named words (v.tells a) (v.files a) config are) p.has p.ends.0
 long_of v a b words config (Err f) are p = tt
@@ -237,7 +246,7 @@ words_by v a b words came first p = record {
   config = p.config;
   are = p.are;
   tells = subst (λ (x : Option Answer). IfAnswered x (Tells (asked_with words p.config))) (sym (answer_told came)) (tells_of v a b words (asked_with words p.config) came (plainly v a b words came p));
-  long = subst (λ (x : Option Answer). IfAnswered x (NamesLong (names_of (inputs_for words (asked_with words p.config))))) (sym (answer_told came)) (long_of v a b words p.config came p.are (plainly v a b words came p));
+  long = subst (λ (x : Option Answer). IfAnswered x (NamesOf (config_of words) (asked_with words p.config))) (sym (answer_told came)) (long_of v a b words p.config came p.are (plainly v a b words came p));
 }
 
 -- ---- calm shelves and streams

@@ -1,6 +1,7 @@
 pub mod Ending
 pub mod Outcome
 pub mod Answer
+pub mod Apart
 pub mod Parts
 pub mod RunLaws
 pub mod OutcomeLaws

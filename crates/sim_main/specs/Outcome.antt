@@ -11,7 +11,8 @@ use Rattle.answers.specs.declared.answer.Answer.{Answer}
 use Rattle.answers.specs.declared.answer.Answer.TheVariants as answer
 use Rattle.answers.specs.declared.answer.Unbuilt.TheVariants as unbuilt
 use Rattle.answers.specs.Answer.{answered, refused}
-use Rattle.run_commands.specs.Outcome.{SimSafeOutcome, RecordOutcome, sim_safe_inputs, record_inputs, named_input, object_limit}
+use Rattle.run_commands.specs.Program.{named_input, object_limit}
+use Rattle.run_commands.specs.Outcome.{SimSafeOutcome, RecordOutcome, sim_safe_inputs, record_inputs, point_file}
 use Rattle.run_commands.specs.Replay.{RecordingOutcome}
 use Rattle.object_commands.specs.Outcome.{AsmOutcome, DisOutcome}
 use Rattle.sim_opts.specs.Request.{Request, SimSafe, Record, Asm, Dis, Words, Text, NotBuilt, request_with, config_of}
@@ -52,7 +53,7 @@ asked_with words config = asked_by (config_of words) (request_with words) config
 
 -- the files that are loaded for what is asked, in this order, each with the most bytes that it may have
 abbrev pub inputs_of : Asked → List Input
-inputs_of (Asks (SimSafe commits trace max_inst object args)) = sim_safe_inputs trace object
+inputs_of (Asks (SimSafe r)) = sim_safe_inputs r
 inputs_of (Asks (Record out given files max_inst object args)) = record_inputs given files object
 inputs_of (Asks (Asm source object)) = input source source_limit ∷ []
 inputs_of (Asks (Dis object)) = input object object_limit ∷ []
@@ -63,7 +64,7 @@ inputs_of (LongConfig name) = []
 
 -- what comes of it, by what is found in these files
 abbrev pub HasOutcome : Asked → List Found → Outcome Answer → Type 0
-HasOutcome (Asks (SimSafe commits trace max_inst object args)) found o = SimSafeOutcome commits trace max_inst object args found o
+HasOutcome (Asks (SimSafe r)) found o = SimSafeOutcome r found o
 HasOutcome (Asks (Record out given files max_inst object args)) found o = RecordOutcome out given files max_inst object args found o
 HasOutcome (Asks (Asm source object)) found o = AsmOutcome source object found o
 HasOutcome (Asks (Dis object)) found o = DisOutcome object found o
@@ -74,7 +75,7 @@ HasOutcome (LongConfig name) found o = o ≡ refused (answer.TooLong name)
 
 -- the same of a command that came to an answer or a fault; where a recording answers, it is replayed
 abbrev pub ComesBy : Asked → Result Answer Fault → List Found → Outcome Answer → Type 0
-ComesBy (Asks (SimSafe commits trace max_inst object args)) came found o = SimSafeOutcome commits trace max_inst object args found o
+ComesBy (Asks (SimSafe r)) came found o = SimSafeOutcome r found o
 ComesBy (Asks (Record out given files max_inst object args)) came found o = RecordingOutcome out given files max_inst object args came found o
 ComesBy (Asks (Asm source object)) came found o = AsmOutcome source object found o
 ComesBy (Asks (Dis object)) came found o = DisOutcome object found o
@@ -82,6 +83,17 @@ ComesBy (Asks (Words place reason)) came found o = o ≡ refused (answer.Words p
 ComesBy (Asks (Text line reason)) came found o = o ≡ refused (answer.Text line reason)
 ComesBy (Asks NotBuilt) came found o = o ≡ not_built
 ComesBy (LongConfig name) came found o = o ≡ refused (answer.TooLong name)
+
+-- the file of the point that a run leaves, if it leaves one
+abbrev pub left_point : Asked → Option (List ℕ)
+left_point (Asks (SimSafe r)) = point_file r.point
+left_point (Asks (Record out given files max_inst object args)) = None
+left_point (Asks (Asm source object)) = None
+left_point (Asks (Dis object)) = None
+left_point (Asks (Words place reason)) = None
+left_point (Asks (Text line reason)) = None
+left_point (Asks NotBuilt) = None
+left_point (LongConfig name) = None
 
 -- ---- what comes of words
 

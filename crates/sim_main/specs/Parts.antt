@@ -6,7 +6,7 @@ use Rattle.journal.specs.View.{View}
 use Rattle.journal.specs.Load.{AreFound}
 use Rattle.journal.specs.Outcome.{Comes}
 use Rattle.answers.specs.declared.answer.Answer.{Answer}
-use Rattle.run_commands.specs.Outcome.{named_input}
+use Rattle.run_commands.specs.Program.{named_input}
 use Rattle.sim_opts.specs.Options.{Said}
 use Rattle.sim_opts.specs.Request.{Request, configured}
 use Rattle.sim_main.specs.Outcome.{Asks, config_limit, asked_by, inputs_of, ComesBy, behind_config}

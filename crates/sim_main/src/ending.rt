@@ -3,6 +3,7 @@ ghost use Rattle.std.specs.Prelude.{◌≡◌};
 ghost use Rattle.sim_main.specs.Ending.{answer_ending, fault_ending, ending_of};
 
 use answers::{Answer, Unbuilt};
+use checkpoint::PointWhy;
 use ecoff_load::ObjectWhy;
 use event_trace::TraceWhy;
 use journal::Fault;
@@ -24,6 +25,8 @@ pub enum Ending {
     Object { at: u64, why: ObjectWhy },
     /// The trace is refused at this place of its file, counted from 0.
     Trace { at: u64, why: TraceWhy },
+    /// The point is refused at this place of its file, counted from 0.
+    Point { at: u64, why: PointWhy },
     /// A call of the shelf failed.
     ShelfFault,
     /// A put to one of the two streams failed.
@@ -56,6 +59,7 @@ impl Ending {
             Ending::Words { .. } => 1,
             Ending::Object { .. } => 2,
             Ending::Trace { .. } => 3,
+            Ending::Point { .. } => 4,
             Ending::ShelfFault => 5,
             Ending::SinkFault => 6,
             Ending::OutOfMemory => 7,
@@ -88,6 +92,7 @@ impl From<Answer> for Ending {
             Answer::Words { at, why } => Ending::Words { at, why },
             Answer::Object { at, why } => Ending::Object { at, why },
             Answer::Trace { at, why } => Ending::Trace { at, why },
+            Answer::Point { at, why } => Ending::Point { at, why },
             Answer::Stopped { cause, pc, icnt } => Ending::Stopped { cause, pc, icnt },
             Answer::Budget => Ending::Budget,
             Answer::Text { line, why } => Ending::Text { line, why },

@@ -3,7 +3,7 @@ ghost use Rattle.std.specs.Prelude.{◌≡◌, ◌^◌, ◌<◌, true, Ok, Some,
 ghost use Rattle.journal.specs.Parts.{parts_view, parts_of};
 ghost use Rattle.sim_opts.specs.Options.{said_in};
 ghost use Rattle.sim_opts.specs.Words.{is_unbuilt};
-ghost use Rattle.sim_opts.specs.Request.{CanStart, Starts, asked, configured};
+ghost use Rattle.sim_opts.specs.Request.{Starts, CanBegin, asked, configured};
 ghost use Rattle.sim_opts.specs.Borrowed.{request_in};
 ghost use Rattle.sim_main.specs.Outcome.{not_built};
 ghost use Rattle.sim_main.specs.Answer.{ComesByWords};
@@ -57,7 +57,7 @@ fn do_asked<O: Outside>(
     options: &Options,
     outside: &mut O,
 ) -> Result<Answer, Fault>
-    requires { CanStart options.now.args }
+    requires { CanBegin (said_in options.now) }
     ensures { ComesByRequest O.view outside.old (asked words (said_in options.now)) outside.new result }
 {
     match options.request(alloc, words) {
@@ -74,7 +74,7 @@ fn do_configured<O: Outside>(
     text: &[u8],
     outside: &mut O,
 ) -> Result<Answer, Fault>
-    requires start { CanStart options.args }
+    requires start { CanBegin (said_in options) }
     requires short { length text.now < 2 ^ 32 }
     ensures { ComesByRequest O.view outside.old (configured words (said_in options) (Some text.now)) outside.new result }
 {
@@ -92,7 +92,7 @@ fn do_options<O: Outside>(
     options: Options,
     outside: &mut O,
 ) -> Result<Answer, Fault>
-    requires { CanStart options.args }
+    requires { CanBegin (said_in options) }
     ensures { ComesBySaid O.view outside.old words (said_in options) outside.new result }
 {
     let Some(name) = &options.config else {

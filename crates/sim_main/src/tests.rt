@@ -29,6 +29,8 @@ fn each_command_has_enough_memory(rt: HostRuntime) -> Result<(), Fail> {
         "dis object",
         "record -o trace object",
         "sim-safe -commits lines -trace trace object",
+        "sim-safe -fastfwd 1 -chkpt point 2 -trace trace object",
+        "sim-safe -restart point -commits lines -trace trace object",
     ] {
         well = ends_well(rt.alloc(), line, &mut shelf)? && well;
     }

@@ -8,7 +8,7 @@ ghost use Rattle.journal.specs.Texts.{WholeFiles};
 ghost use Rattle.journal.specs.Clauses.{LeavesFiles, LeavesOutput, LeavesReport, OutcomeWith, Gets, IfAnswered};
 ghost use Rattle.sim_main.specs.Ending.{is_fault, answer_of};
 ghost use Rattle.sim_main.specs.Outcome.{inputs_in, OutcomeIn, ComesIn};
-ghost use Rattle.sim_main.specs.Answer.{CameBy, AnswersBy, EndsByWords, ComesAsFar, Counts, Quiet};
+ghost use Rattle.sim_main.specs.Answer.{CameBy, AnswersBy, EndsByWords, ComesAsFar, Counts, Quiet, HoldsOfPoint};
 
 use crate::ending::{Ending, ending_by};
 use crate::request::do_parts;
@@ -57,7 +57,7 @@ pub fn simulate<H: Shelf, P: Sink, R: Sink>(
     ensures ending { IfAnswered (answer_of result) (λ a. AnswersBy (H.tells shelf.old) (H.files shelf.old) (map string_bytes words.now) a (λ o. Gets P.tells P.contents prog.old prog.new (output_of o.writes) × Gets R.tells R.contents stat.old stat.new (report_of o.writes))) }
     ensures words { EndsByWords (H.tells shelf.old) (H.files shelf.old) (map string_bytes words.now) result }
     ensures count { Counts (H.faults shelf.old, P.faults prog.old, R.faults stat.old) (H.faults shelf.new, P.faults prog.new, R.faults stat.new) result }
-    ensures quiet { Quiet (P.faults prog.old) (P.faults prog.new) prog.old prog.new stat.old stat.new result }
+    ensures quiet { HoldsOfPoint (H.tells shelf.old) (H.files shelf.old) (map string_bytes words.now) (λ point. Quiet point (P.faults prog.old) (P.faults prog.new) prog.old prog.new stat.old stat.new result) }
 
     // telling and calmness stay
     ensures stays { Stays (parts_view H.tells H.calm H.files H.faults P.tells P.contents P.faults P.calm R.tells R.contents R.faults R.calm) (shelf.old, prog.old, stat.old) (shelf.new, prog.new, stat.new) }

@@ -10,14 +10,13 @@ use Rattle.sim_opts.specs.declared.words.Wrong.{Wrong}
 use Rattle.sim_opts.specs.Table.{tool_name, is_unbuilt_name}
 use Rattle.sim_opts.specs.Settings.{Setting}
 use Rattle.sim_opts.specs.Words.{Asks, Ask, IsFirstWrong, is_unbuilt}
-use Rattle.sim_opts.specs.Options.{said_by, said_behind, nothing_said, given_in}
+use Rattle.sim_opts.specs.Options.{said_by}
 use Rattle.sim_opts.specs.Configuration.{AreLines, IsWrongLine, read_lines, configuration, with_configuration}
 use Rattle.sim_opts.specs.Request.{Words, Text, told_place, asked, configured, configured_by, request_by, request_with}
 use Rattle.sim_opts.specs.RequestLaws.{built_asks, alone_asks}
 use Rattle.sim_opts.proofs.Grammar.{ask_read, wrong_read}
 use Rattle.sim_opts.proofs.LineGrammar.{lines_iff_read, wrong_iff_read}
-use Rattle.sim_opts.proofs.Saying.{tool_stays}
-use Rattle.sim_opts.proofs.Starts.{begun}
+use Rattle.sim_opts.proofs.Starts.{tool_behind}
 
 built_tool : (t : Tool) → is_unbuilt_name (tool_name t) ≡ false
 unfolding is_unbuilt_name
@@ -39,13 +38,6 @@ alone words a k = told_by words None a k ∙ alone_asks (length words) (said_by 
 with_text : (words : List (List ℕ)) (text : List ℕ) (a : Asks) → Ask words a → request_with words (Some text) ≡ configured_by (length words) (said_by a) (configuration (said_by a).tool text)
 unfolding configured
 with_text words text a k = told_by words (Some text) a k
-
--- options and operands leave the command as it is
-tool_behind : (t : Tool) (settings : List Setting) (operands : List (List ℕ)) → (said_behind t operands (begun t settings)).tool ≡ t
-tool_behind tools.SimSafe settings operands = tool_stays (record (nothing_said tools.SimSafe) { given = given_in settings }) settings
-tool_behind tools.Record settings operands = tool_stays (record (nothing_said tools.Record) { given = given_in settings }) settings
-tool_behind tools.Asm settings operands = tool_stays (record (nothing_said tools.Asm) { given = given_in settings }) settings
-tool_behind tools.Dis settings operands = tool_stays (record (nothing_said tools.Dis) { given = given_in settings }) settings
 
 tool_said : (a : Asks) → (said_by a).tool ≡ a.tool
 tool_said a = tool_behind a.tool a.settings a.operands

@@ -1,5 +1,5 @@
 -- What is wrong with the values of an option, and with what stands behind the options.
-use Rattle.std.proofs.Common.{◌≡◌, ◌+◌, ◌-◌, ◌<◌, ◌≤◌, ℕ, zero, suc, ◌==◌, ◌&&◌, nat_le, leb-true, Bool, true, false, List, [], ◌∷◌, length, get_or, drop, Option, Some, None, IfSome, if◌then◌else◌, refl, sym, ap, ◌∙◌, subst, arith}
+use Rattle.std.proofs.Common.{◌≡◌, ◌+◌, ◌-◌, ◌<◌, ◌≤◌, ℕ, zero, suc, ◌==◌, Bool, true, false, List, [], ◌∷◌, length, get_or, drop, Option, Some, None, IfSome, if◌then◌else◌, refl, sym, ap, ◌∙◌, subst, arith}
 use Rattle.std.proofs.lemmas.List.{drop_all}
 use Rattle.sim_opts.specs.declared.table.Slot.{Slot}
 use Rattle.sim_opts.specs.declared.table.Tool.{Tool}
@@ -10,7 +10,7 @@ use Rattle.sim_opts.specs.declared.words.Wrong.{Wrong}
 use Rattle.sim_opts.specs.Word.{is_file, fits_start_block}
 use Rattle.sim_opts.specs.Values.{value_fault}
 use Rattle.sim_opts.specs.Settings.{Setting, is_given}
-use Rattle.sim_opts.specs.Words.{wrong, further_on, reason_of, value_or, values_fault, names_fault, start_fault, restart_fault, out_fault, fault_or, operands_fault}
+use Rattle.sim_opts.specs.Words.{wrong, further_on, reason_of, value_or, values_fault, names_fault, start_fault, run_fault, out_fault, fault_or, operands_fault}
 use Rattle.sim_opts.proofs.Lists.{left_at, item_at}
 
 pub further_twice : (p q : ℕ) (o : Option Wrong) → further_on p (further_on q o) ≡ further_on (p + q) o
@@ -181,24 +181,15 @@ out_inside : (texts : List (List ℕ)) (b : Bool) → IsInside (length texts) (i
 out_inside texts true = tt
 out_inside texts false = omega arith
 
-extra_inside : (n : ℕ) (b : Bool) → 2 ≤ n → IsInside n (if b then Some (wrong 1 why.Extra) else None)
-extra_inside n true h = omega arith
-extra_inside n false h = tt
+one_inside : (n : ℕ) (b : Bool) (first second : Option Wrong) → IsInside n first → IsInside n second → IsInside n (if b then first else second)
+one_inside n true first second h k = h
+one_inside n false first second h k = k
 
-both_right : (a b : Bool) → (a && b) ≡ true → b ≡ true
-both_right true b h = h
-both_right false b h = cc
-
-extra_if : (n : ℕ) (b : Bool) → (b ≡ true → 2 ≤ n) → IsInside n (if b then Some (wrong 1 why.Extra) else None)
-extra_if n true h = extra_inside n true (h refl)
-extra_if n false h = tt
-
-restart_inside : (settings : List Setting) (texts : List (List ℕ)) → IsInside (length texts) (restart_fault settings texts)
-restart_inside settings texts =
-    extra_if (length texts) (is_given 2 settings && nat_le 2 (length texts)) (λ e. leb-true 2 (length texts) (both_right (is_given 2 settings) (nat_le 2 (length texts)) e))
+run_inside : (settings : List Setting) (texts : List (List ℕ)) → IsInside (length texts) (run_fault settings texts)
+run_inside settings texts = one_inside (length texts) (is_given 2 settings) (names_fault 1 texts) (start_fault texts) (names_inside 1 texts) (start_inside texts)
 
 pub operands_inside : (tool : Tool) (settings : List Setting) (texts : List (List ℕ)) → IsInside (length texts) (operands_fault tool settings texts)
-operands_inside SimSafe settings texts = either_inside (length texts) (start_fault texts) (restart_fault settings texts) (start_inside texts) (restart_inside settings texts)
+operands_inside SimSafe settings texts = run_inside settings texts
 operands_inside Record settings texts = either_inside (length texts) (start_fault texts) (out_fault settings texts) (start_inside texts) (out_inside texts (is_given 9 settings))
 operands_inside Asm settings texts = names_inside 2 texts
 operands_inside Dis settings texts = names_inside 1 texts

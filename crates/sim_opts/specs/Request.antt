@@ -1,5 +1,5 @@
 -- What words ask for, with what stands in the configuration that they name.
-use Rattle.std.specs.Prelude.{◌≤◌, ◌-◌, ◌^◌, ◌||◌, ℕ, Bool, List, [], length, min, nat_lt, is_some, Option, Some, None, Result, Ok, Err, unwrap_or, if◌then◌else◌}
+use Rattle.std.specs.Prelude.{◌≤◌, ◌-◌, ◌^◌, ℕ, Bool, List, [], length, min, Option, Some, None, Result, Ok, Err, unwrap_or, if◌then◌else◌}
 use Rattle.ecoff_load.specs.Start.{block}
 use Rattle.ss_base.specs.declared.text_fault.TextWhy.{TextWhy}
 use Rattle.ss_base.specs.declared.text_fault.AsmFault.{AsmFault}
@@ -14,9 +14,25 @@ use Rattle.sim_opts.specs.Words.{Asks, read, is_unbuilt}
 use Rattle.sim_opts.specs.Options.{Said, said_by, clash}
 use Rattle.sim_opts.specs.Configuration.{configuration, with_configuration}
 
+-- a run of a program
+pub record Run : Type 0 where
+  -- the object, and the arguments from the object on
+  pub object : List ℕ
+  pub args : List (List ℕ)
+  -- the files of its recorded calls, and of the point that it starts from in place of the program's start
+  pub trace : Option (List ℕ)
+  pub restart : Option (List ℕ)
+  -- how many steps are skipped first, and the most that are done behind them
+  pub skip : ℕ
+  pub most : ℕ
+  -- the file for the commit text
+  pub commits : Option (List ℕ)
+  -- the file for a point, and behind how many instructions it is taken
+  pub point : Option (List ℕ × ℕ)
+
 pub data Request : Type 0 where
-  -- run an object: the files for its commit text and of its recorded calls, the most instructions, the object, and the arguments from the object on
-  SimSafe : (commits trace : Option (List ℕ)) (max_inst : ℕ) (object : List ℕ) (args : List (List ℕ)) → Request
+  -- run an object
+  SimSafe : Run → Request
   -- run an object and record its calls: the file for the trace, the file that is read as input, and the files that the program can open
   Record : (out : List ℕ) (input : Option (List ℕ)) (files : List (List ℕ)) (max_inst : ℕ) (object : List ℕ) (args : List (List ℕ)) → Request
   -- make an object of a source
@@ -36,13 +52,22 @@ pub data Request : Type 0 where
 abbrev pub told_place : ℕ → ℕ
 told_place n = min n (2 ^ 32 - 1)
 
--- a run starts at a point, writes one, or skips instructions, which isn't built
-abbrev pub needs_points : Said → Bool
-needs_points a = is_some a.restart || (is_some a.chkpt || nat_lt 0 a.fastfwd)
+-- the run that is asked for
+abbrev pub run_of : Said → Run
+run_of a = record {
+  object = a.object;
+  args = a.args;
+  trace = a.trace;
+  restart = a.restart;
+  skip = a.fastfwd;
+  most = a.max_inst;
+  commits = a.commits;
+  point = a.chkpt;
+}
 
 -- what a command is asked for
 abbrev pub command_of : Tool → Said → Request
-command_of tools.SimSafe a = SimSafe a.commits a.trace a.max_inst a.object a.args
+command_of tools.SimSafe a = SimSafe (run_of a)
 command_of tools.Record a = Record (unwrap_or a.out []) a.input a.files a.max_inst a.object a.args
 command_of tools.Asm a = Asm (unwrap_or a.source []) a.object
 command_of tools.Dis a = Dis a.object
@@ -50,7 +75,7 @@ command_of tools.Dis a = Dis a.object
 -- what is asked for by options that so many words and their configuration say: where they clash, the words
 -- are wrong at their end
 unfoldable pub asked : ℕ → Said → Request
-asked words a = if clash a then Words (told_place words) why.Clash else (if needs_points a then NotBuilt else command_of a.tool a)
+asked words a = if clash a then Words (told_place words) why.Clash else command_of a.tool a
 
 -- ---- with a configuration
 
@@ -90,12 +115,21 @@ config_of words = if is_unbuilt words then None else config_by (read words)
 abbrev pub CanStart : List (List ℕ) → Type 0
 CanStart args = (big : Bool) → length (block big args) ≤ 16384
 
+-- a run from a point has no start block
+abbrev pub StartsRun : Option (List ℕ) → List (List ℕ) → Type 0
+StartsRun None args = CanStart args
+StartsRun (Some point) args = Unit {0}
+
 -- a program that is asked for can be started
 abbrev pub Starts : Request → Type 0
-Starts (SimSafe commits trace max_inst object args) = CanStart args
+Starts (SimSafe run) = StartsRun run.restart run.args
 Starts (Record out input files max_inst object args) = CanStart args
 Starts (Asm source object) = Unit {0}
 Starts (Dis object) = Unit {0}
 Starts (Words place reason) = Unit {0}
 Starts (Text line reason) = Unit {0}
 Starts NotBuilt = Unit {0}
+
+-- what is said asks for a program that can be started, or for none
+abbrev pub CanBegin : Said → Type 0
+CanBegin a = Starts (command_of a.tool a)

@@ -1,5 +1,5 @@
 -- What words ask for, and the first word that is wrong: the grammar, and the reading of words.
-use Rattle.std.specs.Prelude.{◌≡◌, ◌+◌, ◌&&◌, ◌⊎◌, ℕ, zero, suc, Bool, false, List, [], ◌∷◌, ◌++◌, length, take, Option, Some, None, Result, Ok, Err, nat_eq, nat_le, if◌then◌else◌}
+use Rattle.std.specs.Prelude.{◌≡◌, ◌+◌, ◌⊎◌, ℕ, zero, suc, Bool, false, List, [], ◌∷◌, ◌++◌, length, take, Option, Some, None, Result, Ok, Err, nat_eq, nat_le, if◌then◌else◌}
 use Rattle.sim_opts.specs.declared.table.Slot.{Slot}
 use Rattle.sim_opts.specs.declared.table.Tool.{Tool}
 use Rattle.sim_opts.specs.declared.table.Tool.TheVariants.{SimSafe, Record, Asm, Dis}
@@ -84,9 +84,9 @@ abbrev pub fault_or : Option Wrong → Option Wrong → Option Wrong
 fault_or None other = other
 fault_or (Some w) other = Some w
 
--- no argument stands with -restart
-abbrev pub restart_fault : List Setting → List (List ℕ) → Option Wrong
-restart_fault settings operands = if is_given 2 settings && nat_le 2 (length operands) then Some (wrong 1 why.Extra) else None
+-- with -restart the object stands alone, and nothing is started
+abbrev pub run_fault : List Setting → List (List ℕ) → Option Wrong
+run_fault settings operands = if is_given 2 settings then names_fault 1 operands else start_fault operands
 
 -- a recording has its -o
 abbrev pub out_fault : List Setting → List (List ℕ) → Option Wrong
@@ -94,7 +94,7 @@ out_fault settings operands = if is_given 9 settings then None else Some (wrong 
 
 -- the first wrong place of what stands behind the options
 abbrev pub operands_fault : Tool → List Setting → List (List ℕ) → Option Wrong
-operands_fault SimSafe settings operands = fault_or (start_fault operands) (restart_fault settings operands)
+operands_fault SimSafe settings operands = run_fault settings operands
 operands_fault Record settings operands = fault_or (start_fault operands) (out_fault settings operands)
 operands_fault Asm settings operands = names_fault 2 operands
 operands_fault Dis settings operands = names_fault 1 operands

@@ -38,6 +38,6 @@ pub use laws::{
 };
 pub use names::Names;
 pub use options::Options;
-pub use request::{Record, Request, SimSafe};
+pub use request::{PointFile, Record, Request, SimSafe};
 pub use table::Tool;
 pub use words::WordWhy;

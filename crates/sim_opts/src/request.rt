@@ -2,8 +2,8 @@
 ghost use Rattle.std.specs.Prelude.{◌≡◌, [], map, string_bytes, unwrap_or, IfOk};
 ghost use Rattle.std.specs.Option.{option_copied};
 ghost use Rattle.sim_opts.specs.Options.{said_in};
-ghost use Rattle.sim_opts.specs.Request.{needs_points, command_of, asked};
-ghost use Rattle.sim_opts.specs.Borrowed.{request_in};
+ghost use Rattle.sim_opts.specs.Request.{command_of, asked};
+ghost use Rattle.sim_opts.specs.Borrowed.{point_in, request_in};
 
 use crate::asked::{clash, place_of};
 use crate::options::Options;
@@ -42,19 +42,35 @@ pub enum Request<'a> {
     NotBuilt,
 }
 
+/// A point that a run writes.
+#[derive(Clone, Copy, Debug, PartialEq, Eq)]
+pub struct PointFile<'a> {
+    /// The file that it is written to.
+    pub file: &'a str,
+    /// Behind how many instructions it is taken, at most 10^12, those that are skipped among them.
+    pub at: u64,
+}
+
 /// A run of an object.
 #[derive(Clone, Copy, Debug)]
 pub struct SimSafe<'a> {
-    /// The file that the commit text is written to, if any.
-    pub commits: Option<&'a str>,
-    /// The file of the recorded calls, if any.
-    pub trace: Option<&'a str>,
-    /// The most instructions that are done, at most 10^12.
-    pub max_inst: u64,
     /// The file of the object.
     pub object: &'a str,
-    /// The arguments that the program finds, of which the object's name is the first.
+    /// The arguments that the program finds, of which the object's name is the first. A run from a point
+    /// has no other, and doesn't look at it.
     pub args: &'a [String],
+    /// The file of the recorded calls, if any.
+    pub trace: Option<&'a str>,
+    /// The file of the point that the run starts from, if it doesn't start the program.
+    pub restart: Option<&'a str>,
+    /// How many steps are skipped first, at most 10^12.
+    pub skip: u64,
+    /// The most instructions that are done behind them, at most 10^12.
+    pub max_inst: u64,
+    /// The file that the commit text is written to, if any.
+    pub commits: Option<&'a str>,
+    /// The point that the run writes, if any.
+    pub point: Option<PointFile<'a>>,
 }
 
 /// A run of an object whose calls are recorded.
@@ -105,11 +121,17 @@ fn texts_of(alloc: Global, names: &[String]) -> Result<Vec<&str>, OutOfMemory>
     Ok(texts)
 }
 
-/// Whether a run starts at a point, writes one, or skips instructions, which is not built.
-fn needs_points(o: &Options) -> bool
-    ensures { result ≡ needs_points (said_in o.now) }
+/// The point that is written, if one is.
+fn point_file(point: &Option<(Name, u64)>) -> Option<PointFile<'_>>
+    ensures { point_in result ≡ point.now }
 {
-    o.restart.is_some() || o.chkpt.is_some() || o.fastfwd > 0
+    match point {
+        Some((file, at)) => Some(PointFile {
+            file: file.as_str(),
+            at: *at,
+        }),
+        None => None,
+    }
 }
 
 impl Options {
@@ -118,11 +140,14 @@ impl Options {
         ensures { request_in result ≡ command_of Tool.SimSafe (said_in self.now) }
     {
         Request::SimSafe(SimSafe {
-            commits: text_of(&self.commits),
-            trace: text_of(&self.trace),
-            max_inst: self.max_inst,
             object: self.object.as_str(),
             args: self.args.as_slice(),
+            trace: text_of(&self.trace),
+            restart: text_of(&self.restart),
+            skip: self.fastfwd,
+            max_inst: self.max_inst,
+            commits: text_of(&self.commits),
+            point: point_file(&self.chkpt),
         })
     }
 
@@ -159,7 +184,7 @@ impl Options {
     }
 
     /// What options ask for that so many words and their configuration say: where they clash, the words
-    /// are wrong at their end, and points are not built. It takes memory for the files of a recording.
+    /// are wrong at their end. It takes memory for the files of a recording.
     #[tactic(auto, unfolding(crate::specs::Request::asked))]
     pub fn request(&self, alloc: Global, words: usize) -> Result<Request<'_>, OutOfMemory>
         ensures { IfOk result (λ r. request_in r ≡ asked words (said_in self.now)) }
@@ -169,9 +194,6 @@ impl Options {
                 at: place_of(words),
                 why: WordWhy::Clash,
             });
-        }
-        if needs_points(self) {
-            return Ok(Request::NotBuilt);
         }
         self.command(alloc)
     }

@@ -12,8 +12,14 @@ fn line_of(alloc: Global, options: &Options, words: usize) -> Result<String, All
         Err(_) => format!(in alloc; "no memory"),
         Ok(Request::SimSafe(run)) => {
             let (commits, trace, most, object) = (run.commits, run.trace, run.max_inst, run.object);
-            let args = run.args;
-            format!(in alloc; "run {commits:?} {trace:?} {most} {object} {args:?}")
+            let (restart, skip, args) = (run.restart, run.skip, run.args);
+            let (file, at) = match run.point {
+                Some(point) => (Some(point.file), point.at),
+                None => (None, 0),
+            };
+            format!(in alloc;
+                "run {commits:?} {trace:?} {most} {object} {args:?} {restart:?} {skip} {file:?} {at}"
+            )
         }
         Ok(Request::Record(run)) => {
             let (out, input, most, object) = (run.out, run.input, run.max_inst, run.object);
@@ -36,62 +42,86 @@ fn asks_for(alloc: Global, line: &str, want: &str) -> bool {
     if is_unbuilt(&words) {
         return want == "not built";
     }
-    let Ok(options) = read_words(alloc, &words) else {
-        return false;
+    let line = match read_words(alloc, &words) {
+        Ok(options) => line_of(alloc, &options, words.len()),
+        Err(WordFault::Bad { at, why }) => format!(in alloc; "words {at} {why:?}"),
+        Err(WordFault::OutOfMemory) => format!(in alloc; "no memory"),
     };
-    match line_of(alloc, &options, words.len()) {
+    match line {
         Ok(line) => line.as_str() == want,
         Err(_) => false,
     }
 }
 
 /// Lines, and what they ask for.
-const ASKED: [(&str, &str); 30] = [
-    ("sim-safe p1", r#"run None None 1000000000 p1 ["p1"]"#),
+const ASKED: [(&str, &str); 34] = [
+    (
+        "sim-safe p1",
+        r#"run None None 1000000000 p1 ["p1"] None 0 None 0"#,
+    ),
     (
         "sim-safe p1 -trace  x",
-        r#"run None None 1000000000 p1 ["p1", "-trace", "", "x"]"#,
+        r#"run None None 1000000000 p1 ["p1", "-trace", "", "x"] None 0 None 0"#,
     ),
     (
         "sim-safe -commits c p1",
-        r#"run Some("c") None 1000000000 p1 ["p1"]"#,
+        r#"run Some("c") None 1000000000 p1 ["p1"] None 0 None 0"#,
     ),
     (
         "sim-safe -trace t p1",
-        r#"run None Some("t") 1000000000 p1 ["p1"]"#,
+        r#"run None Some("t") 1000000000 p1 ["p1"] None 0 None 0"#,
     ),
-    ("sim-safe -max:inst 0 p1", r#"run None None 0 p1 ["p1"]"#),
+    (
+        "sim-safe -max:inst 0 p1",
+        r#"run None None 0 p1 ["p1"] None 0 None 0"#,
+    ),
     (
         "sim-safe -max:inst 1000000000000 p1 a",
-        r#"run None None 1000000000000 p1 ["p1", "a"]"#,
+        r#"run None None 1000000000000 p1 ["p1", "a"] None 0 None 0"#,
     ),
     (
         "sim-safe -commits c -trace t -max:inst 17 p1",
-        r#"run Some("c") Some("t") 17 p1 ["p1"]"#,
+        r#"run Some("c") Some("t") 17 p1 ["p1"] None 0 None 0"#,
     ),
     (
         "sim-safe -commits -trace -trace -commits p1",
-        r#"run Some("-trace") Some("-commits") 1000000000 p1 ["p1"]"#,
+        r#"run Some("-trace") Some("-commits") 1000000000 p1 ["p1"] None 0 None 0"#,
     ),
     (
         "sim-safe p1 -commits",
-        r#"run None None 1000000000 p1 ["p1", "-commits"]"#,
+        r#"run None None 1000000000 p1 ["p1", "-commits"] None 0 None 0"#,
     ),
     (
         "sim-safe -trace t -commits c p1",
-        r#"run Some("c") Some("t") 1000000000 p1 ["p1"]"#,
+        r#"run Some("c") Some("t") 1000000000 p1 ["p1"] None 0 None 0"#,
     ),
     (
         "sim-safe -max:inst 1 -commits c p1",
-        r#"run Some("c") None 1 p1 ["p1"]"#,
+        r#"run Some("c") None 1 p1 ["p1"] None 0 None 0"#,
     ),
     (
         "sim-safe -fastfwd 0 p1",
-        r#"run None None 1000000000 p1 ["p1"]"#,
+        r#"run None None 1000000000 p1 ["p1"] None 0 None 0"#,
     ),
-    ("sim-safe -fastfwd 1 p1", "not built"),
-    ("sim-safe -chkpt q 1 p1", "not built"),
-    ("sim-safe -restart q p1", "not built"),
+    (
+        "sim-safe -fastfwd 1 p1",
+        r#"run None None 1000000000 p1 ["p1"] None 1 None 0"#,
+    ),
+    (
+        "sim-safe -chkpt q 1 p1",
+        r#"run None None 1000000000 p1 ["p1"] None 0 Some("q") 1"#,
+    ),
+    (
+        "sim-safe -restart q p1",
+        r#"run None None 1000000000 p1 ["p1"] Some("q") 0 None 0"#,
+    ),
+    (
+        "sim-safe -max:inst 4 -chkpt r 3 -fastfwd 2 -commits c -trace t -restart q p1",
+        r#"run Some("c") Some("t") 4 p1 ["p1"] Some("q") 2 Some("r") 3"#,
+    ),
+    ("sim-safe -restart q p1 x", "words 4 Extra"),
+    ("sim-safe -restart q", "words 3 NoObject"),
+    ("sim-safe -chkpt p1 1000000000001 p1", "words 3 Range"),
     ("sim-safe -commits c -chkpt c 1 p1", "words 7 Clash"),
     (
         "sim-safe -restart q -commits c -chkpt c 1 p1",
@@ -171,6 +201,7 @@ fn start_blocks_have_at_most_16384_bytes(rt: HostRuntime) {
     let agree = too_long_at(rt.alloc(), run, 16360).is_none()
         && too_long_at(rt.alloc(), run, 16361) == Some(1)
         && too_long_at(rt.alloc(), recording, 16360).is_none()
-        && too_long_at(rt.alloc(), recording, 16361) == Some(3);
+        && too_long_at(rt.alloc(), recording, 16361) == Some(3)
+        && too_long_at(rt.alloc(), "sim-safe -restart q p", 16500).is_none();
     assert!(rt; agree);
 }

@@ -2,7 +2,7 @@
 ghost use Rattle.std.specs.Prelude.{◌≡◌, ◌+◌, ◌<◌, ◌≤◌, ◌^◌, [], map, length, string_bytes, IfSome, None, Ok};
 ghost use Rattle.sim_opts.specs.Table.{row_in};
 ghost use Rattle.sim_opts.specs.Settings.{count, is_given};
-ghost use Rattle.sim_opts.specs.Words.{reason_of, values_fault, row_fault, judged, names_fault, start_fault, restart_fault, out_fault, operands_fault, walk, ended, read};
+ghost use Rattle.sim_opts.specs.Words.{reason_of, values_fault, row_fault, judged, names_fault, start_fault, run_fault, out_fault, operands_fault, walk, ended, read};
 ghost use Rattle.sim_opts.specs.Kept.{setting_in, walked_in, judged_in, placed, IsAmong, Walks, IsWithin, Reads};
 
 use crate::table::{Row, Slot, Tool, row_named, tool_named};
@@ -239,17 +239,14 @@ fn start_fault(operands: &[String]) -> Option<Wrong>
     Some(Wrong { at: 0, why })
 }
 
-/// What is wrong with arguments beside a restart.
-fn restart_fault(settings: &[Setting<'_>], operands: &[String]) -> Option<Wrong>
-    ensures { result ≡ restart_fault (map setting_in settings.now) (map string_bytes operands.now) }
+/// What is wrong with the object of a run and its arguments: with a restart it stands alone.
+fn run_fault(settings: &[Setting<'_>], operands: &[String]) -> Option<Wrong>
+    ensures { result ≡ run_fault (map setting_in settings.now) (map string_bytes operands.now) }
 {
-    if is_given(2, settings) && operands.len() >= 2 {
-        Some(Wrong {
-            at: 1,
-            why: WordWhy::Extra,
-        })
+    if is_given(2, settings) {
+        names_fault(1, operands)
     } else {
-        None
+        start_fault(operands)
     }
 }
 
@@ -274,10 +271,7 @@ fn operands_fault(tool: Tool, settings: &[Setting<'_>], operands: &[String]) -> 
     ensures inside { IfSome result (λ w. w.at ≤ length operands.now) }
 {
     match tool {
-        Tool::SimSafe => match start_fault(operands) {
-            Some(wrong) => Some(wrong),
-            None => restart_fault(settings, operands),
-        },
+        Tool::SimSafe => run_fault(settings, operands),
         Tool::Record => match start_fault(operands) {
             Some(wrong) => Some(wrong),
             None => out_fault(settings, operands),

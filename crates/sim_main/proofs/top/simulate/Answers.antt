@@ -10,8 +10,9 @@ use Rattle.answers.specs.declared.answer.Answer.{Answer}
 use Rattle.sim_main.specs.declared.ending.Ending.{Ending}
 use Rattle.sim_main.specs.Ending.{answer_of, is_fault}
 use Rattle.sim_main.specs.Outcome.{asked_in, inputs_in, OutcomeIn, ComesIn}
-use Rattle.sim_main.specs.Answer.{AnswersBy, EndsByWords, Counts, Quiet}
+use Rattle.sim_main.specs.Answer.{AnswersBy, EndsByWords, Counts, Quiet, HoldsOfPoint}
 use Rattle.sim_main.specs.OutcomeLaws.{starts_files}
+use Rattle.sim_main.specs.Apart.{apart_in}
 use Rattle.sim_main.specs.EndingLaws.{answer_told, fault_told, counts_of, plainly_in, memory_by, counts_words, stays_words, last_by, quiet_by, ending_by, replay_by, words_by, succeeds_by, streams_succeed_by}
 use Rattle.sim_main.specs.FarLaws.{far_by}
 use Rattle.sim_main.proofs.top.simulate.Goals as goal
@@ -36,7 +37,7 @@ returns-clause-files g c = λ t.
     let p = c.do_parts.ensures.comes in
     let q = plainly_in v old new words came p t in
     let told = sym (ap answer_of c.ending_by.ensures ∙ answer_told came) in
-    subst (λ (x : Option Answer). LeavesFiles (inputs_in words (v.files old)) (OutcomeIn words (v.files old)) (v.files old) (v.files new) x) told (leaves_files v old new (inputs_in words (v.files old)) (OutcomeIn words (v.files old)) came (starts_files words (asked_in words (v.files old))) t q)
+    subst (λ (x : Option Answer). LeavesFiles (inputs_in words (v.files old)) (OutcomeIn words (v.files old)) (v.files old) (v.files new) x) told (leaves_files v old new (inputs_in words (v.files old)) (OutcomeIn words (v.files old)) came (starts_files words (asked_in words (v.files old)) (apart_in words (v.files old))) t q)
 
 pub returns-clause-prog : goal.returns-clause-prog
 returns-clause-prog g c = λ t u.
@@ -142,7 +143,7 @@ returns-clause-quiet g c =
     let words = map string_bytes c.args.words.now in
     let came = c.do_parts.result in
     let p = c.do_parts.ensures.comes in
-    subst (λ (x : Ending). Quiet (v.prog.faults old) (v.prog.faults new) old.1 new.1 old.2 new.2 x) (sym c.ending_by.ensures) (quiet_by v old new words came p)
+    subst (λ (x : Ending). HoldsOfPoint (v.tells old) (v.files old) words (λ point. Quiet point (v.prog.faults old) (v.prog.faults new) old.1 new.1 old.2 new.2 x)) (sym c.ending_by.ensures) (quiet_by v old new words came p)
 
 pub returns-clause-stays : goal.returns-clause-stays
 returns-clause-stays g c =

@@ -1,6 +1,6 @@
 use Rattle.std.specs.Prelude.{map, string_bytes}
 use Rattle.sim_opts.proofs.Starts.{said_starts, request_starts}
-use Rattle.run_commands.proofs.tests.leaves.Goals as goal
+use Rattle.run_commands.proofs.tests.exits.Goals as goal
 
 pub sim_safe-answer-requires : goal.sim_safe-answer-requires
 sim_safe-answer-requires c =
