@@ -1,0 +1,9 @@
+mod Below
+mod Plans
+mod Texts
+mod Points
+mod Starts
+mod Loads
+mod Runs
+mod Pieces
+mod Lines
