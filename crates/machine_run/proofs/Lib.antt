@@ -1,0 +1,6 @@
+mod Watched
+mod Starts
+mod Whole
+mod Commits
+mod Ends
+mod Texts
